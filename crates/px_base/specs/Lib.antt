@@ -1,4 +1,5 @@
 pub mod Answers
+pub mod AnswerTexts
 pub mod Classes
 pub mod Core
 pub mod CountSteps
@@ -7,6 +8,7 @@ pub mod Inputs
 pub mod Laws
 pub mod Lines
 pub mod Parts
+pub mod Programs
 pub mod Pulls
 pub mod Rules
 pub mod Starts

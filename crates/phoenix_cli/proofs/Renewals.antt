@@ -1,0 +1,70 @@
+-- One round of all workers is one renewal of the whole list: each vertex takes the least of its value and its pull.
+use Rattle.std.proofs.Common.{◌≡◌, ℕ, zero, suc, ◌+◌, ◌-◌, ◌<◌, ◌≤◌, min, Bool, true, false, List, [], ◌∷◌, length, map, take, drop, get_or, refl, sym, ap, ◌∙◌, arith}
+use Rattle.std.specs.Prelude.{slice_index, slice_range, All}
+use Rattle.std.specs.List.{AllByRecursion}
+use Rattle.std.proofs.lemmas.List.Elements.{recursion_from_All}
+use Rattle.px_base.specs.declared.graph.Read.{Read}
+use Rattle.px_base.specs.declared.graph.Part.{Part}
+use Rattle.px_base.specs.declared.program.Along.TheVariants.{Plus}
+use Rattle.px_base.specs.Values.{IsValue, by_position}
+use Rattle.px_base.specs.Graphs.{row_at}
+use Rattle.px_base.specs.Rules.{edge_value, least, pull}
+use Rattle.px_base.specs.Parts.{PartFits, is_known, part_of, low_of, high_of}
+use Rattle.px_base.specs.Pulls.{known_value, master_pull}
+use Rattle.px_base.specs.ValueSteps.{renewed_masters, renewed_value}
+use Rattle.px_base.specs.Programs.{bfs, bfs_core}
+use Rattle.px_base.proofs.Positions.{length_by_position, at_position}
+use Rattle.phoenix_cli.proofs.Ranges.{at_range, length_range, is_range, known_is}
+
+-- the value of v after a renewal of the list x
+abbrev pub renewed_at : List (List Read) → List ℕ → List ℕ → ℕ → ℕ
+renewed_at rows starts x v = min (slice_index x v) (pull bfs rows starts x v)
+
+-- the list x after a renewal of all its values at once
+abbrev pub renewed : List (List Read) → List ℕ → List ℕ → List ℕ
+renewed rows starts x = by_position (length rows) (renewed_at rows starts x)
+
+-- what a vertex with this row gathers, where value gives the value of each source
+abbrev pub gathered : (ℕ → ℕ) → ℕ → List Read → ℕ
+gathered value start row = least start (map (λ r. edge_value (Plus 1) (value r.source) r.weight) row)
+
+same_edge_values : (f g : ℕ → ℕ) (row : List Read) → AllByRecursion (λ r. f r.source ≡ g r.source) row →
+    map (λ r. edge_value (Plus 1) (f r.source) r.weight) row ≡ map (λ r. edge_value (Plus 1) (g r.source) r.weight) row
+same_edge_values f g [] h = refl
+same_edge_values f g (r ∷ row) h = rw (h.0, same_edge_values f g row h.1) refl
+
+known_row : (part : Part) (x : List ℕ) (row : List Read) → AllByRecursion (λ r. is_known part r.source ≡ true) row →
+    AllByRecursion (λ r. known_value part (slice_range x part.low part.high) (map (slice_index x) part.mirrors) r.source ≡ slice_index x r.source) row
+known_row part x [] h = tt
+known_row part x (r ∷ row) h = (known_is part x r.source h.0, known_row part x row h.1)
+
+-- a master gathers what its vertex does
+master_gathers : (part : Part) (x : List ℕ) (k : ℕ) → PartFits part → k < length part.rows →
+    master_pull part bfs_core (slice_range x part.low part.high) (map (slice_index x) part.mirrors) k ≡ gathered (slice_index x) (slice_index part.starts k) (row_at part.rows k)
+master_gathers part x k fits below =
+    ap (least (slice_index part.starts k)) (same_edge_values (known_value part (slice_range x part.low part.high) (map (slice_index x) part.mirrors)) (slice_index x) (row_at part.rows k)
+    (known_row part x (row_at part.rows k) (recursion_from_All (λ r. is_known part r.source ≡ true) (row_at part.rows k) (fits.sources k [] below))))
+
+-- The masters of a part, where masters and mirrors have their values of x, are renewed as their vertices are.
+pub masters_renewed : (rows : List (List Read)) (starts x cuts : List ℕ) (i : ℕ) → PartFits (part_of rows starts cuts i) → length starts ≡ length rows →
+    high_of cuts i ≤ length rows →
+    renewed_masters (part_of rows starts cuts i) bfs_core (slice_range x (low_of cuts i) (high_of cuts i)) (map (slice_index x) (part_of rows starts cuts i).mirrors)
+    ≡ slice_range (renewed rows starts x) (low_of cuts i) (high_of cuts i)
+masters_renewed rows starts x cuts i fits sized inside =
+    let part : Part = part_of rows starts cuts i in
+    let low : ℕ = low_of cuts i in
+    let high : ℕ = high_of cuts i in
+    let count : length part.rows ≡ high - low = length_range rows low high fits.range inside in
+    is_range (renewed_masters part bfs_core (slice_range x low high) (map (slice_index x) part.mirrors)) (renewed rows starts x) low high fits.range
+    (rw (length_by_position (length rows) (renewed_at rows starts x)) inside)
+    (length_by_position (length part.rows) _ ∙ count)
+    (λ k below.
+        let inner : k < length part.rows = omega arith in
+        let v : ℕ = low + k in
+        let pulled : master_pull part bfs_core (slice_range x low high) (map (slice_index x) part.mirrors) k ≡ pull bfs rows starts x v =
+        master_gathers part x k fits inner ∙ ap (λ s. gathered (slice_index x) s (row_at part.rows k)) (at_range starts low high k 0 below)
+        ∙ ap (gathered (slice_index x) (slice_index starts v)) (at_range rows low high k [] below) in
+        at_position (length part.rows) (λ j. renewed_value bfs_core (slice_index (slice_range x low high) j) (master_pull part bfs_core (slice_range x low high) (map (slice_index x) part.mirrors) j)) k 0 inner
+        ∙ ap (λ own. min own (master_pull part bfs_core (slice_range x low high) (map (slice_index x) part.mirrors) k)) (at_range x low high k 0 below)
+        ∙ ap (min (slice_index x v)) pulled
+        ∙ sym (at_position (length rows) (renewed_at rows starts x) v 0 (omega arith)))

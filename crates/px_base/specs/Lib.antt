@@ -7,6 +7,7 @@ pub mod Inputs
 pub mod Laws
 pub mod Lines
 pub mod Parts
+pub mod Programs
 pub mod Pulls
 pub mod Rules
 pub mod Starts

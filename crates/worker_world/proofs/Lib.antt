@@ -1,0 +1,4 @@
+pub mod Foreign
+pub mod Places
+pub mod Taken
+pub mod Updates

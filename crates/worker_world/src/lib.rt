@@ -1,0 +1,10 @@
+//! A worker's world over values: its part of the graph, and the core value of each master and each mirror.
+#![tactic(auto)]
+
+mod pulls;
+mod steps;
+mod values;
+mod world;
+
+pub use px_base::StepFault;
+pub use world::World;

@@ -1,0 +1,55 @@
+ghost use Rattle.std.specs.Prelude.{◌≡◌, ◌≤◌, ◌<◌, ◌^◌, ℕ, All, IfOk, OnOk, length, map};
+ghost use Rattle.px_base.specs.Graphs.{IsRowOf, kept_reads, read_count, row_at, stands_before};
+
+use crate::row::Row;
+use px_base::{Items, Memory, Pos, Rank, Read, Reads};
+use std::alloc::Global;
+
+/// How many reads each row has.
+pub fn row_lengths(alloc: Global, rows: &[Row<Read>]) -> Result<Vec<u32>, Memory>
+    requires { All (λ row. length row < 2 ^ 32) rows.now }
+    ensures { IfOk result (λ lengths. lengths.items ≡ map (λ row. length row) rows.now) }
+{
+    let lengths = rows
+        .iter()
+        .map(|row| row.len() as u32)
+        .collect::<Vec<u32>>(alloc)?;
+    Ok(lengths)
+}
+
+/// Whether a stands before b. A vertex without an entry has the degree 0.
+pub fn stands_before(rank: Rank, degrees: &[u32], a: Pos, b: Pos) -> bool
+    ensures { result ≡ stands_before rank degrees.now a b }
+{
+    match rank {
+        Rank::ById => a < b,
+        Rank::ByDegree => {
+            let high = degrees.get(a as usize).copied().unwrap_or(0);
+            let low = degrees.get(b as usize).copied().unwrap_or(0);
+            low < high || (high == low && a < b)
+        }
+    }
+}
+
+/// Leaves out the reads that are not kept, and puts each row in order.
+pub fn order_rows(rows: &mut [Row<Read>], degrees: &[u32], reads: Reads)
+    requires { length rows.old ≤ 2 ^ 22 }
+    ensures rows { (v : ℕ) → v < length rows.old → IsRowOf (kept_reads reads degrees.now v (row_at rows.old v)) (row_at rows.new v) }
+    ensures fewer { read_count rows.new ≤ read_count rows.old }
+{
+    for (v, row) in rows.iter_mut().enumerate() {
+        row.keep(reads, degrees, v as Pos);
+        row.sort();
+    }
+}
+
+/// Gives the rows away.
+pub fn given_away(alloc: Global, rows: Vec<Row<Read>>) -> Result<Items<Items<Read>>, Memory>
+    ensures { IfOk result (λ items. items ≡ rows.items) }
+{
+    let mut items = Vec::with_capacity(alloc, rows.len())?;
+    for row in rows {
+        items.push(row.into_items())?;
+    }
+    Ok(Items::from_vec(items))
+}

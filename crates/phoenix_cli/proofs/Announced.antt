@@ -53,7 +53,7 @@ listed_filter p (v ∷ vs) m = listed_first p v vs m (v == m) (p v) refl refl (l
 
 -- ---- the mirrors of another part
 
-no_change : (a b : ℕ) → not (a == b) ≡ false → a ≡ b
+pub no_change : (a b : ℕ) → not (a == b) ≡ false → a ≡ b
 no_change a b h = grind (arith, nat_tests)
 
 -- Where v is in the boundary and has its old value at the mirror, the announcement leaves its new one there.
@@ -143,7 +143,7 @@ nothing_passes : (vs : List ℕ) (p : ℕ → Bool) → ((v : ℕ) → p v ≡ f
 nothing_passes [] p none = refl
 nothing_passes (v ∷ vs) p none = rw (none v) (nothing_passes vs p none)
 
-unchanged : (a : ℕ) → not (a == a) ≡ false
+pub unchanged : (a : ℕ) → not (a == a) ≡ false
 unchanged a = grind (arith, nat_tests)
 
 -- nothing is announced where nothing changed and not all is asked for

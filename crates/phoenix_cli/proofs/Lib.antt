@@ -4,3 +4,4 @@ pub mod Halves
 pub mod Lines
 pub mod Ranges
 pub mod Renewals
+pub mod Rounds

@@ -1,5 +1,5 @@
 -- Each part of fitting rows fits.
-use Rattle.std.proofs.Common.{◌≡◌, ℕ, zero, suc, add-one, ◌+◌, ◌-◌, ◌^◌, ◌<◌, ◌≤◌, min, Bool, true, false, List, [], length, map, get_or, take, drop, refl, sym, ap, ◌∙◌, arith, length-take, length-drop, eqb-true, eq-eqb}
+use Rattle.std.proofs.Common.{◌≡◌, ℕ, zero, suc, add-one, ◌+◌, ◌-◌, ◌^◌, ◌<◌, ◌≤◌, min, Bool, true, false, List, [], length, map, get_or, take, drop, refl, sym, ap, subst, ◌∙◌, arith, length-take, length-drop, eqb-true, eq-eqb}
 use Rattle.std.proofs.lemmas.List.{length-map}
 use Rattle.std.proofs.lemmas.List.Folds.{list_any_at}
 use Rattle.std.proofs.lemmas.Map.Views.{any-filter_same}
@@ -10,7 +10,10 @@ use Rattle.std.proofs.lemmas.List.Elements.{All-take, All-drop, All-filter, All-
 use Rattle.std.proofs.lemmas.List.Kept.{IsStrictlyIncreasing-filter}
 use Rattle.std.proofs.lemmas.List.Sums.{sum_by-take-le, sum_by-take-drop}
 use Rattle.std.proofs.lemmas.List.FromFn.{length-range_with_len, get_or-range_with_len}
+use Rattle.std.specs.Prelude.{Result, Ok, Err, IfOk}
 use Rattle.px_base.specs.declared.graph.Read.{Read}
+use Rattle.px_base.specs.declared.graph.Part.{Part}
+use Rattle.px_base.specs.declared.memory.Memory.{Memory}
 use Rattle.px_base.specs.Values.{IsValue, positions_below, is_listed}
 use Rattle.px_base.specs.Graphs.{HasWeights, RowsFit, read_count}
 use Rattle.px_base.specs.Parts.{IsCuts, IsWorkerCuts, PartFits, low_of, high_of, part_count, is_within, is_known, is_master, is_mirror, is_routed, part_rows, part_of, mirrors_of, boundary_of, reads_from}
@@ -84,7 +87,11 @@ boundary_inside : (rows : List (List Read)) (cuts : List ℕ) (n i : ℕ) → Is
 boundary_inside rows cuts n i c below =
     All-filter (is_routed rows cuts) (λ v. is_within (low_of cuts i) (high_of cuts i) v ≡ true) (range_with_len (low_of cuts i) (high_of cuts i - low_of cuts i))
     (range_holds (λ v. is_within (low_of cuts i) (high_of cuts i) v ≡ true) (low_of cuts i) (high_of cuts i - low_of cuts i)
-      (λ v from to. within (low_of cuts i) (high_of cuts i) v from (omega (arith, low_below_high n cuts i c below))))
+    (λ v from to. within (low_of cuts i) (high_of cuts i) v from (omega (arith, low_below_high n cuts i c below))))
+
+-- the sources are below the number of rows
+pub sources_below : (n : ℕ) (rows : List (List Read)) → RowsFit n rows → All (λ row. All (λ r. r.source < length rows) row) rows
+sources_below n rows fit k d inside m e below = omega (arith, fit.one_each, fit.sources k d inside m e below)
 
 pub part_fits : (n : ℕ) (rows : List (List Read)) (starts cuts : List ℕ) (i : ℕ) → n ≤ 2 ^ 22 → RowsFit n rows → length starts ≡ n → All IsValue starts → IsWorkerCuts n cuts → i < part_count cuts →
     PartFits (part_of rows starts cuts i)
@@ -92,6 +99,7 @@ part_fits n rows starts cuts i most fit size values c below =
     let one_each : length rows ≡ n = fit.one_each in
     let inside : high_of cuts i ≤ n = high_inside n cuts i c.cut below in
     let room : length rows ≤ 2 ^ 22 = omega arith in
+    let sources : All (λ row. All (λ r. r.source < length rows) row) rows = sources_below n rows fit in
     record {
       index = omega (arith, c.room);
       range = low_below_high n cuts i c.cut below;
@@ -105,5 +113,27 @@ part_fits n rows starts cuts i most fit size values c below =
       boundary_inside = boundary_inside rows cuts n i c.cut below;
       values = part_holds IsValue starts (low_of cuts i) (high_of cuts i) values;
       mirror_values = mirror_values rows starts cuts i (size ∙ sym one_each) values;
-      sources = λ k d in_part m e in_row. known_source rows cuts i k m d e (rw one_each fit.sources) in_part in_row;
+      sources = λ k d in_part m e in_row. known_source rows cuts i k m d e sources in_part in_row;
     }
+
+-- ---- what a call that makes the part says of it
+
+pub part_is : (rows all : List (List Read)) (starts cuts ends : List ℕ) (i : ℕ) (own : List (List Read)) (own_starts mirrors mirror_starts boundary : List ℕ) → ends ≡ cuts → all ≡ rows →
+    own ≡ slice_range all (get_or ends i 0) (get_or ends (i + 1) 0) → own_starts ≡ slice_range starts (get_or ends i 0) (get_or ends (i + 1) 0) →
+    mirrors ≡ mirrors_of rows cuts i → mirror_starts ≡ map (slice_index starts) mirrors → boundary ≡ boundary_of rows cuts i →
+    record { index = i; low = get_or ends i 0; high = get_or ends (i + 1) 0; rows = own; starts = own_starts; mirrors = mirrors; mirror_starts = mirror_starts; boundary = boundary } ≡ part_of rows starts cuts i
+part_is rows all starts cuts ends i own own_starts mirrors mirror_starts boundary same_cuts same_rows a b c d e = rw (a, b, d, e, c, same_cuts, same_rows) refl
+
+-- what holds of the part holds of what the call made
+pub made : (r : Result Part Memory) (p : Part) (P : Part → Type 0) → IfOk r (λ part. part ≡ p) → P p → IfOk r P
+made (Ok part) p P is h = subst P (sym is) h
+made (Err e) p P is h = tt
+
+-- the sources of a part's rows, where the rows are named as a call names them
+pub part_sources : (n : ℕ) (rows all : List (List Read)) (low high : ℕ) → all ≡ rows → RowsFit n rows → All (λ row. All (λ r. r.source < length all) row) (slice_range all low high)
+part_sources n rows all low high same fit =
+    let P : List (List Read) → Type 0 = λ xs. All (λ row. All (λ r. r.source < length xs) row) (slice_range xs low high) in
+    subst P (sym same) (part_holds (λ row. All (λ r. r.source < length rows) row) rows low high (sources_below n rows fit))
+
+pub mirrors_within : (rows : List (List Read)) (starts cuts mirrors : List ℕ) (n i : ℕ) → length starts ≡ n → RowsFit n rows → mirrors ≡ mirrors_of rows cuts i → All (λ u. u < length starts) mirrors
+mirrors_within rows starts cuts mirrors n i size fit is k d inside = omega (arith, fit.one_each, (let P : List ℕ → Type 0 = λ xs. All (λ u. u < length rows) xs in subst P (sym is) (mirrors_below rows cuts i)) k d inside)

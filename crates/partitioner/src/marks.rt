@@ -59,12 +59,7 @@ pub fn marked_outside(
 }
 
 /// The marked positions in the range, rising.
-pub fn marked_inside(
-    alloc: Global,
-    marks: &[bool],
-    low: Pos,
-    high: Pos,
-) -> Result<Vec<Pos>, Memory>
+pub fn marked_inside(alloc: Global, marks: &[bool], low: Pos, high: Pos) -> Result<Vec<Pos>, Memory>
     requires range { low ≤ high }
     requires inside { high ≤ length marks.now }
     ensures { IfOk result (λ found. found.items ≡ filter (λ u. slice_index_or marks.now u false) (range_with_len low (high - low))) }

@@ -2,7 +2,7 @@ ghost use Rattle.std.specs.Prelude.{◌≡◌, ◌≤◌, ◌<◌, ◌+◌, ◌-
 ghost use Rattle.std.specs.List.{list_any, range_with_len};
 ghost use Rattle.px_base.specs.Values.{IsValue, positions_below};
 ghost use Rattle.px_base.specs.Graphs.{HasWeights, RowsFit, read_count};
-ghost use Rattle.px_base.specs.Parts.{IsWorkerCuts, PartFits, is_within, part_count, part_of, reads_from};
+ghost use Rattle.px_base.specs.Parts.{IsWorkerCuts, PartFits, is_within, part_count, part_of, mirrors_of, boundary_of, reads_from};
 
 use crate::cuts::Cuts;
 use crate::marks::{mark_rows, marked_inside, marked_outside};
@@ -61,12 +61,7 @@ fn marks_from_outside(
 
 /// The positions in the range that rows outside it read, rising.
 #[tactic(auto, using(crate::proofs::Marked::marked_boundary))]
-fn boundary(
-    alloc: Global,
-    rows: &[Items<Read>],
-    low: Pos,
-    high: Pos,
-) -> Result<Vec<Pos>, Memory>
+fn boundary(alloc: Global, rows: &[Items<Read>], low: Pos, high: Pos) -> Result<Vec<Pos>, Memory>
     requires range { low ≤ high }
     requires inside { high ≤ length rows.now }
     requires sources { All (λ row. All (λ r. r.source < length rows.now) row) rows.now }
@@ -105,11 +100,86 @@ fn values_at(alloc: Global, values: &[Value], positions: &[Pos]) -> Result<Vec<V
     Ok(found)
 }
 
+/// The mirrors of part `i`, rising.
+#[tactic(auto, using(crate::proofs::Fitting::part_sources, crate::proofs::Owned::low_below_high, crate::proofs::Owned::high_inside))]
+fn mirrors_of_part(
+    alloc: Global,
+    graph: &ReadGraph,
+    cuts: &Cuts,
+    i: u32,
+) -> Result<Vec<Pos>, Memory>
+    requires rows { RowsFit graph.now.n graph.now.rows }
+    requires most { graph.now.n ≤ 2 ^ 22 }
+    requires cuts { IsWorkerCuts graph.now.n cuts.now.ends }
+    requires part { i < part_count cuts.now.ends }
+    ensures { IfOk result (λ found. found.items ≡ mirrors_of graph.now.rows cuts.now.ends i) }
+{
+    let ends = cuts.ends.as_slice();
+    let (low, high) = (ends[i as usize], ends[i as usize + 1]);
+    let rows = graph.rows.as_slice();
+    let own = &rows[low as usize..high as usize];
+    mirrors(alloc, rows.len(), own, low, high)
+}
+
+/// The boundary of part `i`, rising.
+#[tactic(auto, using(crate::proofs::Fitting::sources_below, crate::proofs::Boundaries::boundary_is, crate::proofs::Owned::low_below_high, crate::proofs::Owned::high_inside))]
+fn boundary_of_part(
+    alloc: Global,
+    graph: &ReadGraph,
+    cuts: &Cuts,
+    i: u32,
+) -> Result<Vec<Pos>, Memory>
+    requires rows { RowsFit graph.now.n graph.now.rows }
+    requires cuts { IsWorkerCuts graph.now.n cuts.now.ends }
+    requires part { i < part_count cuts.now.ends }
+    ensures { IfOk result (λ found. found.items ≡ boundary_of graph.now.rows cuts.now.ends i) }
+{
+    let ends = cuts.ends.as_slice();
+    let (low, high) = (ends[i as usize], ends[i as usize + 1]);
+    boundary(alloc, graph.rows.as_slice(), low, high)
+}
+
+/// Part `i` with these mirrors and this boundary.
+#[tactic(auto, using(crate::proofs::Fitting::mirrors_within, crate::proofs::Fitting::part_is, crate::proofs::Owned::low_below_high, crate::proofs::Owned::high_inside))]
+fn assemble(
+    alloc: Global,
+    graph: &ReadGraph,
+    starts: &[Value],
+    cuts: &Cuts,
+    i: u32,
+    mirrors: Vec<Pos>,
+    boundary: Vec<Pos>,
+) -> Result<Part, Memory>
+    requires rows { RowsFit graph.now.n graph.now.rows }
+    requires cuts { IsWorkerCuts graph.now.n cuts.now.ends }
+    requires one_each { length starts.now ≡ graph.now.n }
+    requires part { i < part_count cuts.now.ends }
+    requires mirrors { mirrors.items ≡ mirrors_of graph.now.rows cuts.now.ends i }
+    requires boundary { boundary.items ≡ boundary_of graph.now.rows cuts.now.ends i }
+    ensures { IfOk result (λ part. part ≡ part_of graph.now.rows starts.now cuts.now.ends i) }
+{
+    let ends = cuts.ends.as_slice();
+    let (low, high) = (ends[i as usize], ends[i as usize + 1]);
+    let rows = graph.rows.as_slice();
+    let own = copied_rows(alloc, &rows[low as usize..high as usize])?;
+    let own_starts = Vec::from_slice(alloc, &starts[low as usize..high as usize])?;
+    let mirror_starts = values_at(alloc, starts, mirrors.as_slice())?;
+    Ok(Part {
+        index: i,
+        low,
+        high,
+        rows: Items::from_vec(own),
+        starts: Items::from_vec(own_starts),
+        mirrors: Items::from_vec(mirrors),
+        mirror_starts: Items::from_vec(mirror_starts),
+        boundary: Items::from_vec(boundary),
+    })
+}
+
 /// Part `i` of the graph whose vertices have these core start values.
 ///
 /// # Errors
 /// `Memory` where there is no room for the part.
-#[tactic(auto, using(crate::proofs::Fitting::part_fits, crate::proofs::Boundaries::boundary_is))]
 pub fn part(
     alloc: Global,
     graph: &ReadGraph,
@@ -128,22 +198,7 @@ pub fn part(
     ensures weights { IfOk result (λ part. HasWeights part.rows) }
     ensures reads { IfOk result (λ part. read_count part.rows ≤ read_count graph.now.rows) }
 {
-    let ends = cuts.ends.as_slice();
-    let (low, high) = (ends[i as usize], ends[i as usize + 1]);
-    let rows = graph.rows.as_slice();
-    let own = &rows[low as usize..high as usize];
-    let mirrors = mirrors(alloc, rows.len(), own, low, high)?;
-    let boundary = boundary(alloc, rows, low, high)?;
-    let mirror_starts = values_at(alloc, starts, mirrors.as_slice())?;
-    let own_starts = Vec::from_slice(alloc, &starts[low as usize..high as usize])?;
-    Ok(Part {
-        index: i,
-        low,
-        high,
-        rows: Items::from_vec(copied_rows(alloc, own)?),
-        starts: Items::from_vec(own_starts),
-        mirrors: Items::from_vec(mirrors),
-        mirror_starts: Items::from_vec(mirror_starts),
-        boundary: Items::from_vec(boundary),
-    })
+    let mirrors = mirrors_of_part(alloc, graph, cuts, i)?;
+    let boundary = boundary_of_part(alloc, graph, cuts, i)?;
+    assemble(alloc, graph, starts, cuts, i, mirrors, boundary)
 }

@@ -1,0 +1,51 @@
+-- Marks at the positions that rows read.
+use Rattle.std.proofs.Common.{◌≡◌, ℕ, zero, suc, ap, replicate, ◌+◌, ◌<◌, Bool, true, false, List, length, get_or, set, take, refl, sym, ◌∙◌, inl, inr, get_or-set_same, get_or-set_other}
+use Rattle.std.specs.Prelude.{◌==◌, ◌||◌, ◌&&◌, not, filter}
+use Rattle.std.specs.List.{list_any, range_with_len}
+use Rattle.std.proofs.lemmas.List.Elements.{filter_agree}
+use Rattle.px_base.specs.Values.{positions_below}
+use Rattle.std.proofs.lemmas.Bool.Decides.{eqb_tells}
+use Rattle.std.proofs.lemmas.List.Folds.{list_any_more}
+use Rattle.px_base.specs.declared.graph.Read.{Read}
+use Rattle.px_base.specs.Parts.{reads_from, is_within}
+
+or_true : (b : Bool) → (b || true) ≡ true
+or_true true = refl
+or_true false = refl
+
+or_false : (b : Bool) → (b || false) ≡ b
+or_false true = refl
+or_false false = refl
+
+pub or_assoc : (a b c : Bool) → ((a || b) || c) ≡ (a || (b || c))
+or_assoc true b c = refl
+or_assoc false b c = refl
+
+-- one mark more
+pub marked_more : (marks : List Bool) (s u : ℕ) → s < length marks → get_or (set marks s true) u false ≡ (get_or marks u false || (s == u))
+marked_more marks s u below = elim (eqb_tells s u) [
+  | inl (t, same) ↦ rw (t, ← same) (get_or-set_same marks s true false below ∙ sym (or_true (get_or marks s false)))
+  | inr (t, apart) ↦ rw t (get_or-set_other marks s u true false (λ e. apart (sym e)) ∙ sym (or_false (get_or marks u false)))
+]
+
+pub marked_rows_more : (before now : Bool) (u i : ℕ) (rows : List (List Read)) (d : List Read) → i < length rows →
+    now ≡ (before || list_any (reads_from u) (take i rows)) → (now || reads_from u (get_or rows i d)) ≡ (before || list_any (reads_from u) (take (i + 1) rows))
+marked_rows_more before now u i rows d below is = rw (is, list_any_more (reads_from u) rows i d below) (or_assoc before (list_any (reads_from u) (take i rows)) (reads_from u (get_or rows i d)))
+
+pub no_mark : (n u : ℕ) → get_or (replicate n false) u false ≡ false
+no_mark zero u = refl
+no_mark (suc n) zero = refl
+no_mark (suc n) (suc u) = no_mark n u
+
+-- what is marked outside the range, where each mark says that a row reads it
+pub marked_mirrors : (marks : List Bool) (rows : List (List Read)) (low high n : ℕ) → ((u : ℕ) → get_or marks u false ≡ list_any (reads_from u) rows) →
+    filter (λ u. not (is_within low high u) && get_or marks u false) (positions_below n) ≡ filter (λ u. not (is_within low high u) && list_any (reads_from u) rows) (positions_below n)
+marked_mirrors marks rows low high n is =
+    filter_agree (λ u. not (is_within low high u) && get_or marks u false) (λ u. not (is_within low high u) && list_any (reads_from u) rows) (λ u. ap (λ b. not (is_within low high u) && b) (is u)) (positions_below n)
+
+-- what is marked in the range, where each mark says that a row before or after it reads it
+pub marked_boundary : (marks : List Bool) (before after : List (List Read)) (low n : ℕ) →
+    ((u : ℕ) → get_or marks u false ≡ (list_any (reads_from u) before || list_any (reads_from u) after)) →
+    filter (λ u. get_or marks u false) (range_with_len low n) ≡ filter (λ u. list_any (reads_from u) before || list_any (reads_from u) after) (range_with_len low n)
+marked_boundary marks before after low n is =
+    filter_agree (λ u. get_or marks u false) (λ u. list_any (reads_from u) before || list_any (reads_from u) after) is (range_with_len low n)

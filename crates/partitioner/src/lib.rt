@@ -1,0 +1,10 @@
+//! Cuts the vertices of a graph into parts, one for each worker: which vertices a part has, which it reads from other
+//! parts, and which parts each vertex has to be sent to.
+#![tactic(auto)]
+
+mod cuts;
+mod marks;
+mod parts;
+
+pub use cuts::{Cuts, cut, owner};
+pub use parts::part;

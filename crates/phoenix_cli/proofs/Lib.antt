@@ -1,7 +1,7 @@
 pub mod Announced
 pub mod Bounds
 pub mod Halves
-pub mod Lines
+pub mod GrowingText
 pub mod Ranges
 pub mod Renewals
-pub mod Rounds
+pub mod InStep

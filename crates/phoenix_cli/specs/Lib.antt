@@ -1,4 +1,4 @@
 pub mod Commands
 pub mod Endings
-pub mod Rounds
+pub mod Stillness
 pub mod Runs

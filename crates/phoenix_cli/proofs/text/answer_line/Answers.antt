@@ -1,7 +1,7 @@
 use Rattle.std.proofs.Common.{◌≡◌, List, [], ◌∷◌, ◌++◌, append_assoc, ◌∙◌, ap, refl}
 use Rattle.std.specs.Prelude.{decimal}
 use Rattle.px_base.specs.Text.{GrowsByPrefix, answer_line, value_text}
-use Rattle.phoenix_cli.proofs.Lines.{begins, on_any_err}
+use Rattle.phoenix_cli.proofs.GrowingText.{begins, on_any_err}
 use Rattle.phoenix_cli.proofs.text.answer_line.Goals as goal
 
 pub returns-in_err-push-clause-err : goal.returns-in_err-push-clause-err

@@ -2,7 +2,7 @@ use Rattle.std.proofs.Common.{◌≡◌, ◌++◌, ◌∙◌, ap, sym, append_as
 use Rattle.std.specs.Prelude.{flat_map, slice_index, ℕ, List}
 use Rattle.px_base.specs.Values.{positions_below}
 use Rattle.px_base.specs.Text.{GrowsByPrefix, answer_line, answer_text}
-use Rattle.phoenix_cli.proofs.Lines.{begins_more, lines_split, lines_more, on_any_err}
+use Rattle.phoenix_cli.proofs.GrowingText.{begins_more, lines_split, lines_more, on_any_err}
 use Rattle.phoenix_cli.proofs.text.answer_text.Goals as goal
 
 pub returns-in_err-answer_line-clause-err : goal.returns-in_err-answer_line-clause-err

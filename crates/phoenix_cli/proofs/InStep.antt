@@ -1,6 +1,6 @@
 -- Rounds of two workers: what they hold between two rounds, what a round makes of it, and when it is the answer.
 use Rattle.std.proofs.Common.{◌≡◌, ℕ, zero, suc, ◌+◌, ◌-◌, ◌<◌, ◌≤◌, Bool, true, false, not, List, [], ◌∷◌, ◌++◌, length, map, take, drop, get_or, refl, sym, ap, subst, ◌∙◌, arith, inl, inr, append_assoc, zero-add}
-use Rattle.std.specs.Prelude.{◌==◌, ◌||◌, ◌&&◌, ◌⊎◌, nat_lt, slice_index, slice_range, sum, All, None, Ok}
+use Rattle.std.specs.Prelude.{◌==◌, ◌||◌, ◌&&◌, ◌⊎◌, nat_lt, slice_index, slice_range, sum, All, None, Result, Ok, Err}
 use Rattle.std.specs.List.{list_any}
 use Rattle.std.proofs.lemmas.Grind.{same_number_lists, common_steps}
 use Rattle.std.proofs.lemmas.Bool.{cases_lt}
@@ -15,14 +15,15 @@ use Rattle.px_base.specs.declared.wire.Update.{Update}
 use Rattle.px_base.specs.declared.wire.Order.TheVariants.{Step}
 use Rattle.px_base.specs.declared.wire.Answer.TheVariants.{Stepped}
 use Rattle.px_base.specs.Values.{IsValue, IsValueList, is_listed, by_position, positions_below}
+use Rattle.px_base.specs.Graphs.{RowsFit}
 use Rattle.px_base.specs.Answers.{IsConsistent, IsGreatestConsistent}
 use Rattle.px_base.specs.Parts.{IsCuts, PartFits, part_of, low_of, high_of, mirrors_of}
-use Rattle.px_base.specs.Worlds.{World, of_values, StepOutcome, first_foreign, is_fresh, CarriesValues, new_world, masters_of, epoch_of}
+use Rattle.px_base.specs.Worlds.{World, Refusal, of_values, StepOutcome, first_foreign, is_fresh, CarriesValues, new_world, masters_of, epoch_of}
 use Rattle.px_base.specs.ValueSteps.{value_step, updated_mirrors, announcements, has_changed, some_changed}
 use Rattle.px_base.specs.WorldSteps.{world_step}
 use Rattle.px_base.specs.Programs.{bfs, bfs_core}
 use Rattle.px_base.proofs.Positions.{length_by_position, at_position}
-use Rattle.phoenix_cli.specs.Rounds.{is_still}
+use Rattle.phoenix_cli.specs.Stillness.{is_still}
 use Rattle.phoenix_cli.proofs.Ranges.{at_range, length_range}
 use Rattle.phoenix_cli.proofs.Renewals.{renewed, renewed_at, masters_renewed}
 use Rattle.phoenix_cli.proofs.Bounds.{IsBelow, below_renewed, below_starts, renewed_values, still_greatest}
@@ -305,3 +306,102 @@ work_falls rows starts cuts first second to_first to_second round job s going =
         let one : is_still (changes rows starts cuts 0 s.now) (told_by rows starts cuts 0 s.epoch s.now) ≡ true = still_part rows starts cuts 0 s.epoch s.now sized_first later first_kept in
         let two : is_still (changes rows starts cuts 1 s.now) (told_by rows starts cuts 1 s.epoch s.now) ≡ true = still_part rows starts cuts 1 s.epoch s.now sized_second later second_kept in
         both_still (is_still (changes rows starts cuts 0 s.now) (told_by rows starts cuts 0 s.epoch s.now)) (is_still (changes rows starts cuts 1 s.now) (told_by rows starts cuts 1 s.epoch s.now)) one two going))
+
+-- ---- a round, as the code makes it
+
+-- the world of part i after a Step, and what it answered
+pub record IsStepped (rows : List (List Read)) (starts cuts : List ℕ) (i epoch round : ℕ) (now : List ℕ) (world : World) (changed : Bool) (updates : List Update) : Type 0 where
+  pub world_is : world ≡ world_at rows starts cuts i 1 round (renewed rows starts now) now
+  pub changed_is : changed ≡ changes rows starts cuts i now
+  pub updates_is : updates ≡ told_by rows starts cuts i epoch now
+
+same_outcome : {A : Type 0} {B : Type 0} (a b : A) (step : Result A B) → step ≡ Ok a → step ≡ Ok b → a ≡ b
+same_outcome a b step h k = cc
+
+same_answer : (e r : ℕ) (c d : Bool) (us vs : List Update) → Stepped e r c us ≡ Stepped e r d vs → (c ≡ d) × (us ≡ vs)
+same_answer e r c d us vs h = (cc, cc)
+
+stepped_is : (rows : List (List Read)) (starts cuts : List ℕ) (i epoch round : ℕ) (now : List ℕ) (step : Result (StepOutcome World) Refusal) (world : World) (changed : Bool) (updates : List Update) →
+    step ≡ Ok (record { world = world; answer = Stepped 1 round changed updates }) → step ≡ Ok (outcome_at rows starts cuts i epoch round now) →
+    IsStepped rows starts cuts i epoch round now world changed updates
+stepped_is rows starts cuts i epoch round now step world changed updates h k =
+    let out : StepOutcome World = record { world = world; answer = Stepped 1 round changed updates } in
+    let same : out ≡ outcome_at rows starts cuts i epoch round now = same_outcome out (outcome_at rows starts cuts i epoch round now) step h k in
+    let answers : (changed ≡ changes rows starts cuts i now) × (updates ≡ told_by rows starts cuts i epoch now) =
+    same_answer 1 round changed (changes rows starts cuts i now) updates (told_by rows starts cuts i epoch now) (ap (λ o. o.answer) same) in
+    record { world_is = ap (λ o. o.world) same; changed_is = answers.0; updates_is = answers.1 }
+
+-- what both worlds made of a round that began in step
+pub record IsRound (rows : List (List Read)) (starts cuts : List ℕ) (epoch round : ℕ) (now : List ℕ) (first second : World) (changed_first changed_second : Bool) (by_first by_second : List Update) : Type 0 where
+  pub one : IsStepped rows starts cuts 0 epoch round now first changed_first by_first
+  pub two : IsStepped rows starts cuts 1 epoch round now second changed_second by_second
+
+pub round_is : (rows : List (List Read)) (starts cuts : List ℕ) (first second : World) (to_first to_second : List Update) (round : ℕ) → (job : IsHalvedJob rows starts cuts) →
+    (s : AreInStep rows starts cuts first second to_first to_second) →
+    (next_first next_second : World) (changed_first changed_second : Bool) (by_first by_second : List Update) →
+    world_step first (Step 1 round to_first) ≡ Ok (record { world = next_first; answer = Stepped 1 round changed_first by_first }) →
+    world_step second (Step 1 round to_second) ≡ Ok (record { world = next_second; answer = Stepped 1 round changed_second by_second }) →
+    IsRound rows starts cuts s.epoch round s.now next_first next_second changed_first changed_second by_first by_second
+round_is rows starts cuts first second to_first to_second round job s next_first next_second changed_first changed_second by_first by_second h k = record {
+  one = stepped_is rows starts cuts 0 s.epoch round s.now (world_step first (Step 1 round to_first)) next_first changed_first by_first h (first_steps rows starts cuts first second to_first to_second round job s);
+  two = stepped_is rows starts cuts 1 s.epoch round s.now (world_step second (Step 1 round to_second)) next_second changed_second by_second k (second_steps rows starts cuts first second to_first to_second round job s);
+}
+
+pub round_kept : (rows : List (List Read)) (starts cuts : List ℕ) (first second : World) (to_first to_second : List Update) (round : ℕ) → (job : IsHalvedJob rows starts cuts) →
+    (s : AreInStep rows starts cuts first second to_first to_second) →
+    (next_first next_second : World) (changed_first changed_second : Bool) (by_first by_second : List Update) →
+    IsRound rows starts cuts s.epoch round s.now next_first next_second changed_first changed_second by_first by_second →
+    AreInStep rows starts cuts next_first next_second by_second by_first
+round_kept rows starts cuts first second to_first to_second round job s next_first next_second changed_first changed_second by_first by_second r =
+    rw (r.one.world_is, r.two.world_is, r.one.updates_is, r.two.updates_is) (next_round rows starts cuts first second to_first to_second round job s)
+
+pub round_falls : (rows : List (List Read)) (starts cuts : List ℕ) (first second : World) (to_first to_second : List Update) (round : ℕ) → (job : IsHalvedJob rows starts cuts) →
+    (s : AreInStep rows starts cuts first second to_first to_second) →
+    (next_first next_second : World) (changed_first changed_second : Bool) (by_first by_second : List Update) →
+    IsRound rows starts cuts s.epoch round s.now next_first next_second changed_first changed_second by_first by_second →
+    (is_still changed_first by_first && is_still changed_second by_second) ≡ false → work_left next_first next_second < work_left first second
+round_falls rows starts cuts first second to_first to_second round job s next_first next_second changed_first changed_second by_first by_second r going =
+    rw (r.one.world_is, r.two.world_is) (work_falls rows starts cuts first second to_first to_second round job s
+    (rw (r.one.changed_is, r.one.updates_is, r.two.changed_is, r.two.updates_is) at going))
+
+first_still : (a b : Bool) (us vs : List Update) → (is_still a us && is_still b vs) ≡ true → a ≡ false
+first_still false b us vs h = refl
+first_still true b us vs h = cc
+
+second_still : (a b : Bool) (us vs : List Update) → (is_still a us && is_still b vs) ≡ true → b ≡ false
+second_still a false us vs h = refl
+second_still a true us vs h = last_still (is_still a us) h
+  where
+    last_still : (d : Bool) → (d && false) ≡ true → true ≡ false
+    last_still true k = cc
+    last_still false k = cc
+
+pub round_ends : (rows : List (List Read)) (starts cuts : List ℕ) (first second : World) (to_first to_second : List Update) (round : ℕ) → (job : IsHalvedJob rows starts cuts) → IsCuts (length rows) cuts → length cuts ≡ 3 →
+    (s : AreInStep rows starts cuts first second to_first to_second) →
+    (next_first next_second : World) (changed_first changed_second : Bool) (by_first by_second : List Update) →
+    IsRound rows starts cuts s.epoch round s.now next_first next_second changed_first changed_second by_first by_second →
+    (is_still changed_first by_first && is_still changed_second by_second) ≡ true → IsGreatestConsistent bfs rows starts (masters_of next_first ++ masters_of next_second)
+round_ends rows starts cuts first second to_first to_second round job c three s next_first next_second changed_first changed_second by_first by_second r still =
+    rw (r.one.world_is, r.two.world_is) (answer_found rows starts cuts first second to_first to_second job c three s
+    (sym r.one.changed_is ∙ first_still changed_first changed_second by_first by_second still) (sym r.two.changed_is ∙ second_still changed_first changed_second by_first by_second still))
+
+-- ---- the job, from what the code made
+
+pub job_is : (n : ℕ) (rows : List (List Read)) (starts cuts : List ℕ) (one two : Part) → RowsFit n rows → IsValueList n starts → IsCuts n cuts → length cuts ≡ 3 →
+    PartFits one → one ≡ part_of rows starts cuts 0 → PartFits two → two ≡ part_of rows starts cuts 1 → IsHalvedJob rows starts cuts
+job_is n rows starts cuts one two fits values c three fits_one is_one fits_two is_two =
+    let sized : n ≡ length rows = sym fits.one_each in
+    record {
+      sources = rw sized at fits.sources;
+      valued = rw sized at values;
+      first = first_half (length rows) cuts (rw sized at c) three;
+      second = second_half (length rows) cuts (rw sized at c) three;
+      first_fits = rw is_one at fits_one;
+      second_fits = rw is_two at fits_two;
+    }
+
+pub opened : (rows : List (List Read)) (starts cuts : List ℕ) (one two : Part) (first second : World) (to_first to_second : List Update) → IsHalvedJob rows starts cuts →
+    one ≡ part_of rows starts cuts 0 → two ≡ part_of rows starts cuts 1 → first ≡ new_world one bfs_core → second ≡ new_world two bfs_core → to_first ≡ [] → to_second ≡ [] →
+    AreInStep rows starts cuts first second to_first to_second
+opened rows starts cuts one two first second to_first to_second job is_one is_two is_first is_second none_first none_second =
+    rw (is_first, is_second, is_one, is_two, none_first, none_second) (opening rows starts cuts job)

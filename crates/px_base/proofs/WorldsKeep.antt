@@ -1,7 +1,7 @@
 -- What every step of a world of values keeps: its part fits, and there is a value for each master and mirror.
 use Rattle.std.proofs.Common.{◌≡◌, ℕ, zero, suc, ◌+◌, ◌-◌, ◌<◌, ◌≤◌, ◌∙◌, Bool, true, false, min, List, [], ◌∷◌, length, get_or, refl, arith, inl, inr}
-use Rattle.std.specs.Prelude.{◌==◌, All, slice_index, if◌then◌else◌, Option, None, Some, Ok, Err, map, replicate}
-use Rattle.std.proofs.lemmas.List.{length-map, length-replicate, get_or-replicate}
+use Rattle.std.specs.Prelude.{◌==◌, All, filter, ◌||◌, slice_index, if◌then◌else◌, Option, None, Some, Ok, Err, map, replicate}
+use Rattle.std.proofs.lemmas.List.{get_or-map, length-map, length-replicate, get_or-replicate}
 use Rattle.std.proofs.lemmas.Grind.{common_steps}
 use Rattle.std.proofs.lemmas.List.Sums.{get_or-le-sum_by}
 use Rattle.std.proofs.lemmas.Bool.{cases_lt}
@@ -20,7 +20,7 @@ use Rattle.px_base.specs.Parts.{PartFits}
 use Rattle.px_base.specs.Pulls.{known_value, master_pull}
 use Rattle.px_base.specs.Rules.{least, mex, first_absent}
 use Rattle.px_base.specs.Worlds.{ValueWorld, ValueWorldFits, CarriesValues, updates_in, new_value_world, World, of_values, StepOutcome, Refusal, refusal_of}
-use Rattle.px_base.specs.ValueSteps.{newest_value, updated_mirrors, renewed_value, renewed_masters, order_outcome}
+use Rattle.px_base.specs.ValueSteps.{newest_value, updated_mirrors, renewed_value, renewed_masters, order_outcome, announcements, has_changed}
 use Rattle.px_base.specs.WorldSteps.{world_step, map_outcome}
 use Rattle.px_base.proofs.Gathers.{least_below_start}
 use Rattle.px_base.proofs.Positions.{length_by_position, at_position}
@@ -93,6 +93,22 @@ renewed_fit part core masters mirrors short fits =
           (renewed_is_value core (slice_index masters k) (master_pull part core masters mirrors k)
           (pull_is_value core (known_value part masters mirrors) (slice_index part.starts k) (row_at part.rows k) (omega (arith, row_within part.rows k, short)) (fits.values k 0 (omega (arith, fits.rows, fits.starts))))));
     }
+
+-- ---- what is announced
+
+at_any_place : (values : List ℕ) (k : ℕ) → All IsValue values → IsValue (get_or values k 0)
+at_any_place values k known = elim (cases_lt k (length values)) [ inl inside ↦ known k 0 inside | inr past ↦ rw (nothing_there values k past) (omega arith) ]
+  where
+    nothing_there : (values : List ℕ) (k : ℕ) → length values ≤ k → get_or values k 0 ≡ 0
+    nothing_there values k past = grind (arith, common_steps)
+
+-- what a step announces are values
+pub announcements_carry : (all : Bool) (part : Part) (before after : List ℕ) → All IsValue after → CarriesValues (announcements all part before after)
+announcements_carry all part before after known = λ k d below.
+    (let vertices : List ℕ = filter (λ v. all || has_changed before after (v - part.low)) part.boundary in
+    let announced : ℕ → Update = λ v. record { vertex = v; value = slice_index after (v - part.low) } in
+    let inside : k < length vertices = omega (arith, below, length-map vertices announced) in
+    rw (get_or-map announced vertices k 0 d inside) (at_any_place after (get_or vertices k 0 - part.low) known))
 
 -- ---- the world
 

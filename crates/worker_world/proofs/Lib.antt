@@ -1,4 +1,5 @@
 pub mod Foreign
-pub mod Places
+pub mod Listed
+pub mod Placing
 pub mod Taken
 pub mod Updates

@@ -1,2 +1,4 @@
+pub mod ByPlace
 pub mod Kept
+pub mod Placed
 pub mod Views

@@ -1,16 +1,27 @@
 -- What the fields of a world mean.
+use Rattle.std.specs.Prelude.{take, drop}
 use Rattle.px_base.specs.Worlds.{World, of_values, ValueWorld}
 use Rattle.worker_world.specs.declared.world.World.TheInside.{Inside}
 use Rattle.worker_world.specs.Kept.{KeepsLeast}
+use Rattle.worker_world.specs.ByPlace.{IsByPlace}
+use Rattle.worker_world.specs.Placed.{master_count}
 
--- the values that the fields hold, with their part and program
+-- the values that the fields hold, with their part and program: those of the masters stand first
 abbrev pub values_of : Inside → ValueWorld
-values_of w = record { part = w.part; core = w.core; epoch = w.epoch; round = w.round; masters = w.masters.items; mirrors = w.mirrors.items }
+values_of w = record {
+  part = w.part;
+  core = w.core;
+  epoch = w.epoch;
+  round = w.round;
+  masters = take (master_count w.part) w.known.values.items;
+  mirrors = drop (master_count w.part) w.known.values.items;
+}
 
 -- the world that the fields hold
 abbrev pub world_of : Inside → World
 world_of w = of_values (values_of w)
 
 -- what the fields keep
-abbrev pub IsKept : Inside → Type 0
-IsKept w = KeepsLeast (values_of w)
+pub record IsKept (w : Inside) : Type 0 where
+  pub world : KeepsLeast (values_of w)
+  pub placed : IsByPlace w.part w.known

@@ -1,67 +1,24 @@
-ghost use Rattle.std.specs.Prelude.{◌≡◌, ◌<◌, ◌≤◌, ◌^◌, ◌-◌, All, IfOk, IsTrue, IsFalse, length, slice_index};
-ghost use Rattle.px_base.specs.Values.{IsValue, IsValueList, IsWeight, is_listed, place_of};
+ghost use Rattle.std.specs.Prelude.{◌≡◌, ◌<◌, ◌+◌, All, IsFalse, length, slice_index, take, drop};
+ghost use Rattle.px_base.specs.Values.{IsValue};
 ghost use Rattle.px_base.specs.Classes.{is_mex};
-ghost use Rattle.px_base.specs.Graphs.{HasWeights, read_count};
-ghost use Rattle.px_base.specs.Core.{core_pull};
-ghost use Rattle.px_base.specs.Parts.{PartFits, is_known};
-ghost use Rattle.px_base.specs.Pulls.{known_value};
+ghost use Rattle.px_base.specs.Parts.{PartFits};
 ghost use Rattle.px_base.specs.ValueSteps.{renewed_value, renewed_masters};
+ghost use Rattle.worker_world.specs.Placed.{gathered, master_count, placed_rows};
 
+use crate::places::PlacedRead;
 use crate::values::core_edge_value;
-use px_base::{CoreProgram, Memory, Own, Part, Pos, Read, Value};
-use std::alloc::Global;
-
-/// The place of a position that is in the list.
-#[tactic(auto, using(crate::proofs::Places::place_is, crate::proofs::Places::none_there))]
-pub fn place_of(positions: &[Pos], u: Pos) -> usize
-    requires { IsTrue (is_listed positions.now u) }
-    ensures place { result ≡ place_of positions.now u }
-    ensures within { result < length positions.now }
-{
-    for (at, position) in positions.iter().enumerate() {
-        if *position == u {
-            return at;
-        }
-    }
-    prove!(false);
-    0
-}
-
-/// The core value that a master or a mirror has.
-fn known_value(part: &Part, masters: &[Value], mirrors: &[Value], u: Pos) -> Value
-    requires masters { length masters.now ≡ part.now.high - part.now.low }
-    requires mirrors { length mirrors.now ≡ length part.now.mirrors }
-    requires known { IsTrue (is_known part.now u) }
-    ensures { result ≡ known_value part.now masters.now mirrors.now u }
-{
-    if part.low <= u && u < part.high {
-        masters[(u - part.low) as usize]
-    } else {
-        mirrors[place_of(part.mirrors.as_slice(), u)]
-    }
-}
+use px_base::{CoreProgram, Items, Own, Part, Value};
 
 /// What a row gathers by the least, from this start value.
-fn pull_row(
-    part: &Part,
-    core: &CoreProgram,
-    masters: &[Value],
-    mirrors: &[Value],
-    start: Value,
-    row: &[Read],
-) -> Value
-    requires masters { length masters.now ≡ part.now.high - part.now.low }
-    requires mirrors { length mirrors.now ≡ length part.now.mirrors }
-    requires values { All IsValue masters.now × All IsValue mirrors.now }
-    requires known { All (λ r. IsTrue (is_known part.now r.source)) row.now }
-    requires weights { All (λ r. IsWeight r.weight) row.now }
-    requires fold { IsFalse (is_mex core.now.program.fold) }
-    ensures { result ≡ core_pull core.now (known_value part.now masters.now mirrors.now) start row.now }
+fn gathered(core: &CoreProgram, values: &[Value], start: Value, row: &[PlacedRead]) -> Value
+    requires places { All (λ r. r.place < length values.now) row.now }
+    requires values { All IsValue values.now }
+    ensures { result ≡ gathered core.now values.now start row.now }
 {
     let mut best = start;
     for read in row {
-        let source = known_value(part, masters, mirrors, read.source);
-        best = best.min(core_edge_value(core, source, read.weight));
+        let source = values[read.place as usize];
+        best = best.min(core_edge_value(core, source, u64::from(read.weight)));
     }
     best
 }
@@ -76,30 +33,45 @@ fn renewed_value(core: &CoreProgram, value: Value, pulled: Value) -> Value
     }
 }
 
-/// All masters, renewed at once.
-#[tactic(auto, using(px_base::proofs::Positions::by_position_more, px_base::proofs::WorldsKeep::renewed_fit))]
-pub fn renewed_masters(
-    alloc: Global,
+/// Writes the new value of each master, from the values of all masters and mirrors.
+fn write_masters(
     part: &Part,
     core: &CoreProgram,
-    masters: &[Value],
-    mirrors: &[Value],
-) -> Result<Vec<Value>, Memory>
+    rows: &[Items<PlacedRead>],
+    values: &[Value],
+    next: &mut [Value],
+)
     requires fits { PartFits part.now }
-    requires weights { HasWeights part.now.rows }
-    requires reads { read_count part.now.rows ≤ 2 ^ 25 }
-    requires masters { IsValueList (part.now.high - part.now.low) masters.now }
-    requires mirrors { IsValueList (length part.now.mirrors) mirrors.now }
+    requires rows { rows.now ≡ placed_rows part.now }
+    requires count { length values.now ≡ master_count part.now + length part.now.mirrors }
+    requires values { All IsValue values.now }
+    requires next { length next.old ≡ master_count part.now }
     requires fold { IsFalse (is_mex core.now.program.fold) }
-    ensures fits { IfOk result (λ values. IsValueList (part.now.high - part.now.low) values.items) }
-    ensures renewed { IfOk result (λ values. values.items ≡ renewed_masters part.now core.now masters.now mirrors.now) }
+    ensures { next.new ≡ renewed_masters part.now core.now (take (master_count part.now) values.now) (drop (master_count part.now) values.now) }
 {
-    let rows = part.rows.as_slice();
     let starts = part.starts.as_slice();
-    let mut values = Vec::with_capacity(alloc, rows.len())?;
     for (k, row) in rows.iter().enumerate() {
-        let pulled = pull_row(part, core, masters, mirrors, starts[k], row.as_slice());
-        values.push(renewed_value(core, masters[k], pulled))?;
+        let pulled = gathered(core, values, starts[k], row.as_slice());
+        next[k] = renewed_value(core, values[k], pulled);
     }
-    Ok(values)
+}
+
+/// The same into a list that has room for them.
+pub fn renew_masters(
+    part: &Part,
+    core: &CoreProgram,
+    rows: &[Items<PlacedRead>],
+    values: &[Value],
+    next: &mut Vec<Value>,
+)
+    requires fits { PartFits part.now }
+    requires rows { rows.now ≡ placed_rows part.now }
+    requires count { length values.now ≡ master_count part.now + length part.now.mirrors }
+    requires values { All IsValue values.now }
+    requires next { length next.old.items ≡ master_count part.now }
+    requires fold { IsFalse (is_mex core.now.program.fold) }
+    ensures count { length next.new.items ≡ master_count part.now }
+    ensures renewed { next.new.items ≡ renewed_masters part.now core.now (take (master_count part.now) values.now) (drop (master_count part.now) values.now) }
+{
+    write_masters(part, core, rows, values, next.as_mut_slice());
 }

@@ -1,11 +1,12 @@
-ghost use Rattle.std.specs.Prelude.{◌≡◌, ◌-◌, All, IfOk, IsTrue, length};
+ghost use Rattle.std.specs.Prelude.{◌≡◌, ◌∷◌, [], ◌++◌, ◌<◌, ◌≤◌, ◌+◌, ◌-◌, All, IfOk, IsTrue, length, take, drop, vec_len, vec_capacity};
 ghost use Rattle.std.specs.List.Sorted.{IsStrictlyIncreasing};
-ghost use Rattle.px_base.specs.Values.{IsValueList, is_listed};
+ghost use Rattle.px_base.specs.Values.{IsValue, is_listed};
 ghost use Rattle.px_base.specs.Parts.{PartFits};
 ghost use Rattle.px_base.specs.Worlds.{CarriesValues};
 ghost use Rattle.px_base.specs.ValueSteps.{announcements, some_changed, updated_mirrors};
+ghost use Rattle.worker_world.specs.Placed.{master_count, IsUpdated};
 
-use crate::pulls::place_of;
+use crate::places::{master_count, place_of};
 use px_base::{Memory, Part, Pos, Update, Value};
 use std::alloc::Global;
 
@@ -14,6 +15,15 @@ pub fn copy_of(alloc: Global, values: &[Value]) -> Result<Vec<Value>, Memory>
     ensures { IfOk result (λ copy. copy.items ≡ values.now) }
 {
     Ok(Vec::from_slice(alloc, values)?)
+}
+
+/// The values of all masters, and then those of all mirrors.
+pub fn joined(alloc: Global, masters: &[Value], mirrors: &[Value]) -> Result<Vec<Value>, Memory>
+    ensures { IfOk result (λ values. values.items ≡ masters.now ++ mirrors.now) }
+{
+    let mut values = copy_of(alloc, masters)?;
+    values.extend_from_slice(mirrors)?;
+    Ok(values)
 }
 
 /// Puts the updates in place, each at its mirror.
@@ -29,24 +39,45 @@ fn apply_updates(mirrors: &[Pos], updates: &[Update], values: &mut [Value])
     }
 }
 
-/// The mirrors' values with the updates in place.
-#[tactic(auto, using(px_base::proofs::WorldsKeep::updated_fit))]
-pub fn updated_mirrors(
-    alloc: Global,
-    mirrors: &[Pos],
-    updates: &[Update],
-    values: &[Value],
-) -> Result<Vec<Value>, Memory>
+/// The same where the values of `count` masters stand before those of the mirrors.
+fn update_after(mirrors: &[Pos], updates: &[Update], count: usize, values: &mut Vec<Value>)
     requires rising { IsStrictlyIncreasing mirrors.now }
-    requires values { IsValueList (length mirrors.now) values.now }
+    requires lengths { length values.old.items ≡ count + length mirrors.now }
     requires known { All (λ u. IsTrue (is_listed mirrors.now u.vertex)) updates.now }
-    requires carried { CarriesValues updates.now }
-    ensures updated { IfOk result (λ copy. copy.items ≡ updated_mirrors mirrors.now updates.now values.now) }
-    ensures fits { IfOk result (λ copy. IsValueList (length mirrors.now) copy.items) }
+    ensures { values.new.items ≡ take count values.old.items ++ updated_mirrors mirrors.now updates.now (drop count values.old.items) }
 {
-    let mut copy = copy_of(alloc, values)?;
-    apply_updates(mirrors, updates, copy.as_mut_slice());
-    Ok(copy)
+    let values = values.as_mut_slice();
+    apply_updates(mirrors, updates, &mut values[count..]);
+}
+
+/// Puts the updates in place among the values of all masters and mirrors.
+pub fn update_mirrors(part: &Part, updates: &[Update], values: &mut Vec<Value>)
+    requires fits { PartFits part.now }
+    requires count { length values.old.items ≡ master_count part.now + length part.now.mirrors }
+    requires values { All IsValue values.old.items }
+    requires known { All (λ u. IsTrue (is_listed part.now.mirrors u.vertex)) updates.now }
+    requires carried { CarriesValues updates.now }
+    ensures { IsUpdated part.now updates.now values.old.items values.new.items }
+{
+    update_after(part.mirrors.as_slice(), updates, master_count(part), values);
+}
+
+fn put_first(values: &[Value], list: &mut [Value])
+    requires { length values.now ≤ length list.old }
+    ensures { list.new ≡ values.now ++ drop (length values.now) list.old }
+{
+    list[..values.len()].copy_from_slice(values);
+}
+
+/// Puts the new values of the masters in place of the old ones, which stand first.
+#[tactic(auto, using(crate::proofs::Placing::take_first, crate::proofs::Placing::drop_first))]
+pub fn put_masters(masters: &[Value], values: &mut Vec<Value>)
+    requires { length masters.now ≤ length values.old.items }
+    ensures first { take (length masters.now) values.new.items ≡ masters.now }
+    ensures rest { drop (length masters.now) values.new.items ≡ drop (length masters.now) values.old.items }
+    ensures count { length values.new.items ≡ length values.old.items }
+{
+    put_first(masters, values.as_mut_slice());
 }
 
 /// Whether some master has another value than before.
@@ -57,28 +88,38 @@ pub fn some_changed(before: &[Value], after: &[Value]) -> bool
     (0..after.len()).any(|k| before[k] != after[k])
 }
 
-/// The boundary masters that changed, or all of them, with their values.
-pub fn announcements(
-    alloc: Global,
+/// Adds an update where there is room for it.
+fn put(updates: &mut Vec<Update>, update: Update)
+    requires { vec_len updates.old < vec_capacity updates.old }
+    ensures items { updates.new.items ≡ updates.old.items ++ update ∷ [] }
+    ensures room { vec_capacity updates.old ≤ vec_capacity updates.new }
+{
+    let _ = updates.push(update);
+}
+
+/// Adds the boundary masters that changed, or all of them, with their values. There is room for all.
+pub fn announce(
     all: bool,
     part: &Part,
     before: &[Value],
     after: &[Value],
-) -> Result<Vec<Update>, Memory>
+    updates: &mut Vec<Update>,
+)
     requires fits { PartFits part.now }
     requires before { length before.now ≡ part.now.high - part.now.low }
     requires after { length after.now ≡ part.now.high - part.now.low }
-    ensures { IfOk result (λ updates. updates.items ≡ announcements all part.now before.now after.now) }
+    requires empty { updates.old.items ≡ [] }
+    requires room { length part.now.boundary ≤ vec_capacity updates.old }
+    ensures { updates.new.items ≡ announcements all part.now before.now after.now }
 {
-    let mut updates = Vec::new(alloc);
     for v in part.boundary.as_slice() {
         let k = (*v - part.low) as usize;
         if all || before[k] != after[k] {
-            updates.push(Update {
+            let update = Update {
                 vertex: *v,
                 value: after[k],
-            })?;
+            };
+            put(updates, update);
         }
     }
-    Ok(updates)
 }

@@ -1,8 +1,8 @@
 ghost use Rattle.std.specs.Prelude.{◌≡◌};
-ghost use Rattle.px_base.specs.Values.{is_listed};
 
-use crate::pulls::renewed_masters;
-use crate::steps::{announcements, copy_of, some_changed, updated_mirrors};
+use crate::known::Known;
+use crate::places::{find_place, master_count};
+use crate::steps::copy_of;
 use crate::values::bfs_core;
 use px_base::{Answer, CoreProgram, Items, Memory, Order, Part, Pos, StepFault, Update, Value};
 use std::alloc::Global;
@@ -17,8 +17,7 @@ pub struct World {
     core: CoreProgram,
     epoch: u32,
     round: u64,
-    masters: Vec<Value>,
-    mirrors: Vec<Value>,
+    known: Known,
 }
 
 impl Model for World {
@@ -50,16 +49,14 @@ impl World {
         requires reads { read_count part.rows ≤ 2 ^ 25 }
         ensures { IfOk result (λ w. w ≡ new_world part bfs_core) }
     {
-        let masters = copy_of(alloc, part.starts.as_slice())?;
-        let mirrors = copy_of(alloc, part.mirror_starts.as_slice())?;
+        let known = Known::new(alloc, &part)?;
         Ok(World {
             alloc,
             part,
             core: bfs_core(),
             epoch: 0,
             round: 0,
-            masters,
-            mirrors,
+            known,
         })
     }
 
@@ -68,7 +65,7 @@ impl World {
         ensures values { result.now ≡ masters_of self.now }
         ensures kept { KeepsValues self.now }
     {
-        self.masters.as_slice()
+        &self.known.values[..master_count(&self.part)]
     }
 
     /// One step. A Step of the world's epoch or a later one puts its updates in place and renews all masters at once; a
@@ -106,7 +103,7 @@ impl World {
                 got: epoch,
             });
         }
-        let values = copy_of(self.alloc, self.masters.as_slice())?;
+        let values = copy_of(self.alloc, self.masters())?;
         Ok(Answer::Reported {
             epoch,
             values: Items::from_vec(values),
@@ -117,7 +114,7 @@ impl World {
     fn takes(&self, v: Pos) -> bool
         ensures { result ≡ takes_update self.now v }
     {
-        is_listed(self.part.mirrors.as_slice(), v)
+        find_place(self.part.mirrors.as_slice(), v).is_some()
     }
 
     /// The first vertex of an update that isn't taken.
@@ -155,8 +152,8 @@ impl World {
         }
     }
 
-    /// A Step that isn't refused. All that it needs is made before anything changes.
-    #[tactic(auto, using(crate::proofs::Taken::step_made, crate::proofs::Taken::all_taken))]
+    /// A Step that isn't refused. The answer's room is reserved before anything changes, and nothing else wants memory.
+    #[tactic(auto, using(crate::proofs::Taken::all_taken, crate::proofs::Placing::all_in_both))]
     fn renew(&mut self, epoch: u32, round: u64, updates: &[Update]) -> Result<Answer, Memory>
         requires epoch { epoch_of self.old ≤ epoch }
         requires taken { first_foreign (takes_update self.old) updates.now ≡ None }
@@ -164,23 +161,13 @@ impl World {
         ensures ok { IfOk result (λ answer. world_step self.old (Order.Step epoch round updates.now) ≡ Ok (record { world = self.new; answer = answer })) }
         ensures kept { OnErr result (self.new ≡ self.old) }
     {
-        let places = self.part.mirrors.as_slice();
-        let mirrors = updated_mirrors(self.alloc, places, updates, self.mirrors.as_slice())?;
-        let before = self.masters.as_slice();
-        let masters = renewed_masters(
-            self.alloc,
-            &self.part,
-            &self.core,
-            before,
-            mirrors.as_slice(),
-        )?;
-        let changed = some_changed(before, masters.as_slice());
+        let room = self.part.boundary.as_slice().len();
+        let mut announced = Vec::with_capacity(self.alloc, room)?;
         let fresh = self.epoch < epoch;
-        let announced = announcements(self.alloc, fresh, &self.part, before, masters.as_slice())?;
+        let (part, core) = (&self.part, &self.core);
+        let changed = self.known.renew(part, core, fresh, updates, &mut announced);
         self.epoch = epoch;
         self.round = round;
-        self.masters = masters;
-        self.mirrors = mirrors;
         Ok(Answer::Stepped {
             epoch,
             round,
@@ -188,10 +175,4 @@ impl World {
             updates: Items::from_vec(announced),
         })
     }
-}
-
-fn is_listed(positions: &[Pos], v: Pos) -> bool
-    ensures { result ≡ is_listed positions.now v }
-{
-    positions.iter().any(|p| *p == v)
 }

@@ -9,8 +9,8 @@ use Rattle.worker_world.proofs.steps.apply_updates.Goals as goal
 abbrev none : Update
 none = record { vertex = 0; value = 0 }
 
-pub place_of-at-requires : goal.place_of-at-requires
-place_of-at-requires c = c.requires.known c.loop-update.update-index none c.loop-update-test.true
+pub place_of-at-requires-clause-listed : goal.place_of-at-requires-clause-listed
+place_of-at-requires-clause-listed c = c.requires.known c.loop-update.update-index none c.loop-update-test.true
 
 pub loop-update-preserved : goal.loop-update-preserved
 loop-update-preserved c k below =

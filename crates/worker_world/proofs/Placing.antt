@@ -1,0 +1,132 @@
+-- Values by place.
+use Rattle.std.proofs.Common.{◌≡◌, ℕ, zero, suc, ◌+◌, ◌-◌, ◌<◌, ◌≤◌, ◌^◌, Bool, true, false, List, [], ◌∷◌, ◌++◌, length, length-append, length-take, length-drop, get_or, take, drop, map, refl, sym, subst, arith}
+use Rattle.std.specs.Prelude.{◌==◌, ◌||◌, All, slice_index, if◌then◌else◌, IsFalse}
+use Rattle.std.proofs.lemmas.Bool.Decides.{nat_tests}
+use Rattle.std.proofs.lemmas.List.{take-append-drop, get_or-take, get_or-drop, get_or-map, length-map}
+use Rattle.std.proofs.lemmas.List.Elements.{All-append, All-take}
+use Rattle.std.proofs.Math.Seq.{take-append_seam, drop-append_seam}
+use Rattle.px_base.specs.declared.graph.Part.{Part}
+use Rattle.px_base.specs.declared.graph.Read.{Read}
+use Rattle.px_base.specs.declared.program.CoreProgram.{CoreProgram}
+use Rattle.px_base.specs.Values.{is_listed, place_of}
+use Rattle.px_base.specs.Classes.{is_mex}
+use Rattle.px_base.specs.Core.{core_edge_value, core_pull}
+use Rattle.px_base.specs.Parts.{PartFits, is_within, is_known}
+use Rattle.px_base.specs.Pulls.{known_value, master_pull}
+use Rattle.px_base.specs.Graphs.{row_at}
+use Rattle.px_base.specs.ValueSteps.{renewed_value}
+use Rattle.px_base.specs.Worlds.{CarriesValues}
+use Rattle.px_base.specs.declared.wire.Update.{Update}
+use Rattle.px_base.specs.Values.{IsValue, IsValueList}
+use Rattle.px_base.proofs.WorldsKeep.{updated_fit}
+use Rattle.worker_world.specs.declared.places.PlacedRead.{PlacedRead}
+use Rattle.worker_world.specs.Placed.{master_count, place_in, placed_read, placed_row, placed_rows, gathered, mirrors_after, IsUpdated}
+use Rattle.worker_world.proofs.Listed.{rises_from_zero}
+
+-- a part that fits has at most as many mirrors as there are vertices
+pub mirror_count : (part : Part) → PartFits part → length part.mirrors ≤ 2 ^ 22
+mirror_count part fits = by_count (length part.mirrors) refl
+  where
+    by_count : (n : ℕ) → length part.mirrors ≡ n → n ≤ 2 ^ 22
+    by_count zero is = omega arith
+    by_count (suc n) is =
+        let last : n < length part.mirrors = omega arith in
+        omega (arith, rises_from_zero part.mirrors fits.mirrors_rise n last, (fits.mirrors_outside n 0 last).0)
+
+-- ---- one read
+
+within_bounds : (low high u : ℕ) → is_within low high u ≡ true → (low ≤ u) × (u < high)
+within_bounds low high u is = (grind (arith, nat_tests), grind (arith, nat_tests))
+
+-- the value at its place is the one known of it
+pub value_at_place : (part : Part) (values : List ℕ) (u : ℕ) →
+    get_or values (place_in part u) 0 ≡ known_value part (take (master_count part) values) (drop (master_count part) values) u
+value_at_place part values u = by_range (is_within part.low part.high u) refl
+  where
+    by_range : (b : Bool) → is_within part.low part.high u ≡ b →
+        get_or values (if b then u - part.low else master_count part + place_of part.mirrors u) 0
+        ≡ (if b then get_or (take (master_count part) values) (u - part.low) 0 else get_or (drop (master_count part) values) (place_of part.mirrors u) 0)
+    by_range true is = let inside : u - part.low < master_count part = omega (arith, (within_bounds part.low part.high u is).0, (within_bounds part.low part.high u is).1) in sym (get_or-take (master_count part) values (u - part.low) 0 inside)
+    by_range false is = sym (get_or-drop (master_count part) values (place_of part.mirrors u) 0)
+
+listed_within : (xs : List ℕ) (u : ℕ) → is_listed xs u ≡ true → place_of xs u < length xs
+listed_within [] u is = cc
+listed_within (x ∷ xs) u is = by_first (x == u) refl is (listed_within xs u)
+  where
+    by_first : (b : Bool) → (x == u) ≡ b → (b || is_listed xs u) ≡ true → (is_listed xs u ≡ true → place_of xs u < length xs) → place_of (x ∷ xs) u < length (x ∷ xs)
+    by_first true e is rest = rw e (omega arith)
+    by_first false e is rest = rw e (omega (arith, rest is))
+
+-- its place is one of the list's
+pub place_within : (part : Part) (u : ℕ) → is_known part u ≡ true → place_in part u < master_count part + length part.mirrors
+place_within part u known = by_range (is_within part.low part.high u) refl known
+  where
+    by_range : (b : Bool) → is_within part.low part.high u ≡ b → (b || is_listed part.mirrors u) ≡ true →
+        (if b then u - part.low else master_count part + place_of part.mirrors u) < master_count part + length part.mirrors
+    by_range true is known = omega (arith, (within_bounds part.low part.high u is).0, (within_bounds part.low part.high u is).1)
+    by_range false is known = omega (arith, listed_within part.mirrors u known)
+
+-- ---- one row
+
+same_items : (part : Part) (core : CoreProgram) (values : List ℕ) (row : List Read) →
+    map (λ r. core_edge_value core (slice_index values r.place) r.weight) (placed_row part row)
+    ≡ map (λ r. core_edge_value core (known_value part (take (master_count part) values) (drop (master_count part) values) r.source) r.weight) row
+same_items part core values [] = refl
+same_items part core values (r ∷ row) = rw (value_at_place part values r.source, same_items part core values row) refl
+
+pub gathered_is : (part : Part) (core : CoreProgram) (values : List ℕ) (start : ℕ) (row : List Read) → IsFalse (is_mex core.program.fold) →
+    gathered core values start (placed_row part row) ≡ core_pull core (known_value part (take (master_count part) values) (drop (master_count part) values)) start row
+gathered_is part core values start row least_only = rw (least_only, same_items part core values row) refl
+
+pub places_within : (part : Part) (row : List Read) → All (λ r. is_known part r.source ≡ true) row → All (λ r. r.place < master_count part + length part.mirrors) (placed_row part row)
+places_within part row known = λ k d below. (let inside : k < length row = omega (arith, below, length-map row (placed_read part)) in
+    rw (get_or-map (placed_read part) row k (record { source = 0; weight = 0 }) d inside) (place_within part (get_or row k (record { source = 0; weight = 0 })).source (known k (record { source = 0; weight = 0 }) inside)))
+
+-- ---- all rows
+
+-- the master's row by place, and what it gathers
+pub row_by_place : (part : Part) (k : ℕ) (d : List PlacedRead) → k < length part.rows → get_or (placed_rows part) k d ≡ placed_row part (row_at part.rows k)
+row_by_place part k d inside = get_or-map (placed_row part) part.rows k [] d inside
+
+pub row_places_within : (part : Part) (k : ℕ) (d : List PlacedRead) → PartFits part → k < length (placed_rows part) → All (λ r. r.place < master_count part + length part.mirrors) (get_or (placed_rows part) k d)
+row_places_within part k d fits below =
+    let inside : k < length part.rows = omega (arith, below, length-map part.rows (placed_row part)) in
+    rw (row_by_place part k d inside) (places_within part (row_at part.rows k) (fits.sources k [] inside))
+
+-- a new value that is made by place
+pub renewed_by_place : (part : Part) (core : CoreProgram) (values : List ℕ) (k : ℕ) (d : List PlacedRead) → IsFalse (is_mex core.program.fold) → PartFits part → k < length (placed_rows part) →
+    renewed_value core (slice_index values k) (gathered core values (slice_index part.starts k) (get_or (placed_rows part) k d))
+    ≡ renewed_value core (slice_index (take (master_count part) values) k) (master_pull part core (take (master_count part) values) (drop (master_count part) values) k)
+renewed_by_place part core values k d fold fits below =
+    let inside : k < length part.rows = omega (arith, below, length-map part.rows (placed_row part)) in
+    let first : k < master_count part = omega (arith, inside, fits.rows) in
+    rw (row_by_place part k d inside, gathered_is part core values (slice_index part.starts k) (row_at part.rows k) fold, get_or-take (master_count part) values k 0 first) refl
+
+-- ---- all values
+
+pub take_first : (m : ℕ) (first rest : List ℕ) → length first ≡ m → take m (first ++ rest) ≡ first
+take_first m first rest is = rw (← is) (take-append_seam first rest)
+
+pub drop_first : (m : ℕ) (first rest : List ℕ) → length first ≡ m → drop m (first ++ rest) ≡ rest
+drop_first m first rest is = rw (← is) (drop-append_seam first rest)
+
+pub updated_is : (part : Part) (updates : List Update) (before after : List ℕ) → length before ≡ master_count part + length part.mirrors → CarriesValues updates → All IsValue before →
+    after ≡ take (master_count part) before ++ mirrors_after part updates before → IsUpdated part updates before after
+updated_is part updates before after count carried known is =
+    let first : length (take (master_count part) before) ≡ master_count part = omega (arith, length-take (master_count part) before, count) in
+    let old : IsValueList (length part.mirrors) (drop (master_count part) before) = record {
+      one_each = omega (arith, length-drop (master_count part) before, count);
+      in_range = λ k d below. rw (get_or-drop (master_count part) before k d) (known (master_count part + k) d (omega (arith, below, length-drop (master_count part) before)));
+    } in
+    let new : IsValueList (length part.mirrors) (mirrors_after part updates before) = updated_fit part.mirrors updates (length part.mirrors) (drop (master_count part) before) carried old in
+    let masters : take (master_count part) after ≡ take (master_count part) before = rw is (take_first (master_count part) (take (master_count part) before) (mirrors_after part updates before) first) in
+    let mirrors : drop (master_count part) after ≡ mirrors_after part updates before = rw is (drop_first (master_count part) (take (master_count part) before) (mirrors_after part updates before) first) in
+    record {
+      count = rw is (omega (arith, length-append (take (master_count part) before) (mirrors_after part updates before), first, new.one_each));
+      masters = masters;
+      mirrors = mirrors;
+      values = rw is (All-append IsValue (take (master_count part) before) (mirrors_after part updates before) (All-take IsValue (master_count part) before known) new.in_range);
+    }
+
+pub all_in_both : (m : ℕ) (values : List ℕ) → All IsValue (take m values) → All IsValue (drop m values) → All IsValue values
+all_in_both m values first rest = subst (λ list. All IsValue list) (take-append-drop m values) (All-append IsValue (take m values) (drop m values) first rest)

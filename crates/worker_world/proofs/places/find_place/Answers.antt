@@ -1,0 +1,9 @@
+use Rattle.std.proofs.Common.{Ok, Err}
+use Rattle.worker_world.proofs.Listed.{found_place}
+use Rattle.worker_world.proofs.places.find_place.Goals as goal
+
+pub returns-in-Ok-clause-some : goal.returns-in-Ok-clause-some
+returns-in-Ok-clause-some c = found_place c.args.positions.now c.args.u (Ok c.in-Ok.at) c.requires c.in-Ok.ensures.position
+
+pub returns-in-Err-clause-none : goal.returns-in-Err-clause-none
+returns-in-Err-clause-none c = found_place c.args.positions.now c.args.u (Err c.in-Err.field-0) c.requires c.in-Err.ensures.position

@@ -1,0 +1,49 @@
+-- The reads of a part by place, in one list of values: its masters stand first, in order, and then its mirrors.
+use Rattle.std.specs.Prelude.{◌≡◌, All, length, ℕ, ◌+◌, ◌-◌, List, map, slice_index, take, drop, if◌then◌else◌}
+use Rattle.px_base.specs.declared.graph.Part.{Part}
+use Rattle.px_base.specs.declared.graph.Read.{Read}
+use Rattle.px_base.specs.declared.program.CoreProgram.{CoreProgram}
+use Rattle.px_base.specs.Values.{IsValue, place_of}
+use Rattle.px_base.specs.Core.{core_edge_value}
+use Rattle.px_base.specs.Parts.{is_within}
+use Rattle.px_base.specs.declared.wire.Update.{Update}
+use Rattle.px_base.specs.Rules.{least}
+use Rattle.px_base.specs.ValueSteps.{updated_mirrors, renewed_masters}
+use Rattle.worker_world.specs.declared.places.PlacedRead.{PlacedRead}
+
+-- how many masters the part has
+abbrev pub master_count : Part → ℕ
+master_count part = part.high - part.low
+
+-- the place of u, a master or a mirror of the part
+abbrev pub place_in : Part → ℕ → ℕ
+place_in part u = if is_within part.low part.high u then u - part.low else master_count part + place_of part.mirrors u
+
+-- the read with the place of its source
+abbrev pub placed_read : Part → Read → PlacedRead
+placed_read part read = record { place = place_in part read.source; weight = read.weight }
+
+abbrev pub placed_row : Part → List Read → List PlacedRead
+placed_row part row = map (placed_read part) row
+
+-- the rows of all masters
+abbrev pub placed_rows : Part → List (List PlacedRead)
+placed_rows part = map (placed_row part) part.rows
+
+-- what a row gathers by the least, where the list has the values of all masters and mirrors
+abbrev pub gathered : CoreProgram → List ℕ → ℕ → List PlacedRead → ℕ
+gathered core values start row = least start (map (λ r. core_edge_value core (slice_index values r.place) r.weight) row)
+
+-- the values of the mirrors after the updates, and those of the masters after a renewal from them
+abbrev pub mirrors_after : Part → List Update → List ℕ → List ℕ
+mirrors_after part updates values = updated_mirrors part.mirrors updates (drop (master_count part) values)
+
+abbrev pub masters_after : Part → CoreProgram → List Update → List ℕ → List ℕ
+masters_after part core updates values = renewed_masters part core (take (master_count part) values) (mirrors_after part updates values)
+
+-- What the values after the updates are, made of those before: the masters' still stand first, and then come the mirrors'.
+pub record IsUpdated (part : Part) (updates : List Update) (before after : List ℕ) : Type 0 where
+  pub count : length after ≡ master_count part + length part.mirrors
+  pub masters : take (master_count part) after ≡ take (master_count part) before
+  pub mirrors : drop (master_count part) after ≡ mirrors_after part updates before
+  pub values : All IsValue after

@@ -1,3 +1,4 @@
+pub mod BitWords
 pub mod Blocks
 pub mod Boundaries
 pub mod Fitting

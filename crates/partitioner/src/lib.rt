@@ -5,6 +5,7 @@
 mod cuts;
 mod marks;
 mod parts;
+mod words;
 
 pub use cuts::{Cuts, cut, owner};
 pub use parts::part;

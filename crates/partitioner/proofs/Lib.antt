@@ -6,3 +6,4 @@ pub mod Found
 pub mod Marked
 pub mod Owned
 pub mod Ranges
+pub mod Routed

@@ -4,8 +4,13 @@
 
 mod cuts;
 mod marks;
+mod lists;
 mod parts;
+mod tables;
+
 mod words;
 
 pub use cuts::{Cuts, cut, owner};
 pub use parts::part;
+pub use tables::{RouteTable, routes};
+

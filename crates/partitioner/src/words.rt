@@ -37,7 +37,8 @@ pub fn next_bit(word: u64, from: u32, most: u32) -> u32
     if rest == 0 {
         return most;
     }
-    most.min(from + rest.trailing_zeros())
+    let first = from + rest.trailing_zeros();
+    if first < most { first } else { most }
 }
 
 /// The bits of the word below `most`, rising.

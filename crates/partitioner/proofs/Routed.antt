@@ -1,6 +1,6 @@
 -- The routes, the mirrors and the boundaries by the words of all positions.
 use Rattle.std.proofs.Common.{◌≡◌, ℕ, zero, suc, ◌+◌, ◌-◌, ◌^◌, ◌<◌, ◌≤◌, Bool, true, false, List, [], ◌∷◌, length, map, get_or, refl, sym, ap, subst, ◌∙◌, arith, inl, inr}
-use Rattle.std.specs.Prelude.{◌==◌, ◌&&◌, not, nat_lt, filter, Result, Ok, Err, IfOk}
+use Rattle.std.specs.Prelude.{All, ◌==◌, ◌&&◌, not, nat_lt, filter, Result, Ok, Err, IfOk}
 use Rattle.std.specs.Int.{bit_at, trailing_zeros, w64}
 use Rattle.std.specs.List.{range_with_len, list_any}
 use Rattle.std.proofs.lemmas.Bool.{cases_lt}
@@ -11,6 +11,7 @@ use Rattle.px_base.specs.declared.graph.Read.{Read}
 use Rattle.px_base.specs.Values.{by_position, positions_below}
 use Rattle.px_base.specs.Parts.{is_mirror, is_routed, mirrors_of, boundary_of, part_count, route_of, routes_of, low_of, high_of}
 use Rattle.partitioner.specs.Bits.{has_bit}
+use Rattle.px_base.proofs.Positions.{length_by_position, at_position}
 use Rattle.partitioner.proofs.Found.{some_position, position_has}
 use Rattle.partitioner.proofs.Ranges.{filters_agree}
 
@@ -93,3 +94,20 @@ boundary_by_words (Ok found) items rows words cuts ends i same bits fits is =
     let P : List ℕ → Type 0 = λ cs. items found ≡ filter (λ u. not (get_or words u 0 == 0)) (range_with_len (low_of cs i) (high_of cs i - low_of cs i)) in
     let at : P cuts = subst P same is in
     at ∙ filters_agree (λ u. not (get_or words u 0 == 0)) (is_routed rows cuts) (low_of cuts i) (high_of cuts i - low_of cuts i) (λ v from to. routed_by_word words rows cuts bits v (fits v))
+
+pub mirror_lists_are : {T E : Type 0} (r : Result T E) (lists : T → List (List ℕ)) (n : ℕ) (rows : List (List Read)) (words cuts ends : List ℕ) → ends ≡ cuts → length rows ≡ n → length words ≡ n → AreMirrorWords words rows cuts →
+    IfOk r (λ found. (k : ℕ) → k < part_count ends → get_or (lists found) k [] ≡ filter (λ u. has_bit (get_or words u 0) k) (positions_below (length words))) →
+    IfOk r (λ found. (k : ℕ) → k < part_count cuts → get_or (lists found) k [] ≡ mirrors_of rows cuts k)
+mirror_lists_are (Err e) lists n rows words cuts ends same size wide bits is = tt
+mirror_lists_are (Ok found) lists n rows words cuts ends same size wide bits is = λ k low.
+    let P : List ℕ → Type 0 = λ cs. (k : ℕ) → k < part_count cs → get_or (lists found) k [] ≡ filter (λ u. has_bit (get_or words u 0) k) (positions_below (length words)) in
+    let at : P cuts = subst P same is in
+    at k low ∙ mirrors_by_bits n rows words cuts k size wide bits low
+
+-- ---- all parts
+
+-- what holds of each entry
+pub each_position : {X : Type 0} (P : X → Type 0) (n : ℕ) (f : ℕ → X) (xs : List X) → xs ≡ by_position n f → ((i : ℕ) → i < n → P (f i)) → All P xs
+each_position P n f xs is each k d inside =
+    let few : k < n = omega (arith, ap length is, length_by_position n f) in
+    subst P (sym (ap (λ ys. get_or ys k d) is ∙ at_position n f k d few)) (each k few)

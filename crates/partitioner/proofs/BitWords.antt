@@ -41,13 +41,13 @@ none_from word from k none after = rw (past word from k after, none, bit_at-zero
 pub none_between : (word from k : ℕ) → word < 2 ^ 64 → 0 < word / 2 ^ from → word / 2 ^ from < 2 ^ 64 → from ≤ k → k < from + trailing_zeros w64 (word / 2 ^ from) → has_bit word k ≡ false
 none_between word from k small some fits after before =
     let first : (trailing_zeros w64 (word / 2 ^ from) < 64) × (bit_at (word / 2 ^ from) (trailing_zeros w64 (word / 2 ^ from)) ≡ 1) × ((i : ℕ) → i < trailing_zeros w64 (word / 2 ^ from) → bit_at (word / 2 ^ from) i ≡ 0) =
-      bit_at-trailing_zeros w64 (word / 2 ^ from) some fits in
+    bit_at-trailing_zeros w64 (word / 2 ^ from) some fits in
     rw (past word from k after, first.2 (k - from) (omega arith)) refl
 
 pub first_has : (word from : ℕ) → 0 < word / 2 ^ from → word / 2 ^ from < 2 ^ 64 → has_bit word (from + trailing_zeros w64 (word / 2 ^ from)) ≡ true
 first_has word from some fits =
     let first : (trailing_zeros w64 (word / 2 ^ from) < 64) × (bit_at (word / 2 ^ from) (trailing_zeros w64 (word / 2 ^ from)) ≡ 1) × ((i : ℕ) → i < trailing_zeros w64 (word / 2 ^ from) → bit_at (word / 2 ^ from) i ≡ 0) =
-      bit_at-trailing_zeros w64 (word / 2 ^ from) some fits in
+    bit_at-trailing_zeros w64 (word / 2 ^ from) some fits in
     rw (sym (shifted word from (trailing_zeros w64 (word / 2 ^ from))), first.1) refl
 
 -- ---- a word for each position
@@ -74,6 +74,7 @@ marked words at word j u k out inside outside is = elim (eqb_tells at u) [
     and_true : (b : Bool) → b ≡ (b && true)
     and_true true = refl
     and_true false = refl
+
     and_false : (b : Bool) → (b && false) ≡ false
     and_false true = refl
     and_false false = refl
@@ -131,9 +132,9 @@ one_part_more : (mirrors : ℕ → Bool) (j k : ℕ) → ((nat_lt k j && mirrors
 one_part_more mirrors j k = elim (cases_lt k j) [
   | inl low ↦ (let t : (nat_lt k j ≡ true) × (nat_lt k (j + 1) ≡ true) × ((k == j) ≡ false) = lower k j low in rw (t.0, t.1, t.2) (or_false (mirrors k)))
   | inr from ↦ elim (cases_lt j k) [
-      | inl high ↦ (let t : (nat_lt k j ≡ false) × (nat_lt k (j + 1) ≡ false) × ((k == j) ≡ false) = higher k j high in rw (t.0, t.1, t.2) refl)
-      | inr to ↦ (let same : k ≡ j = omega arith in let t : (nat_lt j j ≡ false) × (nat_lt j (j + 1) ≡ true) × ((j == j) ≡ true) = equal j in rw (same, t.0, t.1, t.2) refl)
-    ]
+    | inl high ↦ (let t : (nat_lt k j ≡ false) × (nat_lt k (j + 1) ≡ false) × ((k == j) ≡ false) = higher k j high in rw (t.0, t.1, t.2) refl)
+    | inr to ↦ (let same : k ≡ j = omega arith in let t : (nat_lt j j ≡ false) × (nat_lt j (j + 1) ≡ true) × ((j == j) ≡ true) = equal j in rw (same, t.0, t.1, t.2) refl)
+  ]
 ]
 
 -- one part more

@@ -138,10 +138,10 @@ part_sources n rows all low high same fit =
 pub mirrors_within : (rows : List (List Read)) (starts cuts mirrors : List ℕ) (n i : ℕ) → length starts ≡ n → RowsFit n rows → mirrors ≡ mirrors_of rows cuts i → All (λ u. u < length starts) mirrors
 mirrors_within rows starts cuts mirrors n i size fit is k d inside = omega (arith, fit.one_each, (let P : List ℕ → Type 0 = λ xs. All (λ u. u < length rows) xs in subst P (sym is) (mirrors_below rows cuts i)) k d inside)
 
-pub part_sources_below : (n m : ℕ) (rows all : List (List Read)) (low high : ℕ) → all ≡ rows → m ≡ n → RowsFit n rows → All (λ row. All (λ r. r.source < m) row) (slice_range all low high)
-part_sources_below n m rows all low high same size fit =
+pub part_sources_below : (n m : ℕ) (rows all : List (List Read)) (low high : ℕ) → all ≡ rows → m ≡ n → All (λ row. All (λ r. r.source < n) row) rows → All (λ row. All (λ r. r.source < m) row) (slice_range all low high)
+part_sources_below n m rows all low high same size sources =
     let P : List (List Read) → Type 0 = λ xs. All (λ row. All (λ r. r.source < m) row) (slice_range xs low high) in
-    subst P (sym same) (part_holds (λ row. All (λ r. r.source < m) row) rows low high (λ k d inside i e below. omega (arith, fit.sources k d inside i e below)))
+    subst P (sym same) (part_holds (λ row. All (λ r. r.source < m) row) rows low high (λ k d inside i e below. omega (arith, sources k d inside i e below)))
 
 -- ---- mirrors and routes
 

@@ -79,13 +79,13 @@ below_from k n h = grind (arith, nat_tests)
 pub routed_by_word : (words : List ℕ) (rows : List (List Read)) (cuts : List ℕ) → AreMirrorWords words rows cuts → (u : ℕ) → get_or words u 0 < 2 ^ 64 → not (get_or words u 0 == 0) ≡ is_routed rows cuts u
 routed_by_word words rows cuts bits u fits = same_bool (not (get_or words u 0 == 0)) (is_routed rows cuts u)
     (λ some. let first : (trailing_zeros w64 (get_or words u 0) < 64) × (bit_at (get_or words u 0) (trailing_zeros w64 (get_or words u 0)) ≡ 1) × ((i : ℕ) → i < trailing_zeros w64 (get_or words u 0) → bit_at (get_or words u 0) i ≡ 0) =
-          bit_at-trailing_zeros w64 (get_or words u 0) (not_zero (get_or words u 0) some) fits in
-        let k : ℕ = trailing_zeros w64 (get_or words u 0) in
-        let has : has_bit (get_or words u 0) k ≡ true = ap (λ b. b == 1) first.1 in
-        let parts : (nat_lt k (part_count cuts) ≡ true) × (is_mirror rows cuts k u ≡ true) = both (nat_lt k (part_count cuts)) (is_mirror rows cuts k u) (sym (bits u k) ∙ has) in
-        position_has (λ j. is_mirror rows cuts j u) (part_count cuts) k (below_from k (part_count cuts) parts.0) parts.1)
+    bit_at-trailing_zeros w64 (get_or words u 0) (not_zero (get_or words u 0) some) fits in
+    let k : ℕ = trailing_zeros w64 (get_or words u 0) in
+    let has : has_bit (get_or words u 0) k ≡ true = ap (λ b. b == 1) first.1 in
+    let parts : (nat_lt k (part_count cuts) ≡ true) × (is_mirror rows cuts k u ≡ true) = both (nat_lt k (part_count cuts)) (is_mirror rows cuts k u) (sym (bits u k) ∙ has) in
+    position_has (λ j. is_mirror rows cuts j u) (part_count cuts) k (below_from k (part_count cuts) parts.0) parts.1)
     (λ routed. let found : (k : ℕ) × (k < part_count cuts) × (is_mirror rows cuts k u ≡ true) = some_position (λ j. is_mirror rows cuts j u) (part_count cuts) routed in
-        some_true (get_or words u 0) found.0 (bit_is words rows cuts bits u found.0 found.1 ∙ found.2))
+    some_true (get_or words u 0) found.0 (bit_is words rows cuts bits u found.0 found.1 ∙ found.2))
 
 pub boundary_by_words : {T E : Type 0} (r : Result T E) (items : T → List ℕ) (rows : List (List Read)) (words cuts ends : List ℕ) (i : ℕ) → ends ≡ cuts → AreMirrorWords words rows cuts → ((u : ℕ) → get_or words u 0 < 2 ^ 64) →
     IfOk r (λ found. items found ≡ filter (λ u. not (get_or words u 0 == 0)) (range_with_len (low_of ends i) (high_of ends i - low_of ends i))) → IfOk r (λ found. items found ≡ boundary_of rows cuts i)

@@ -3,12 +3,11 @@
 #![tactic(auto)]
 
 mod cuts;
-mod marks;
 mod laws;
 mod lists;
+mod marks;
 mod parts;
 mod tables;
-
 mod whole;
 mod words;
 
@@ -17,4 +16,3 @@ pub use laws::{blocks_are_cuts, mirrors_are_routed, one_owner, parts_fit};
 pub use parts::part;
 pub use tables::{RouteTable, routes};
 pub use whole::parts_and_routes;
-

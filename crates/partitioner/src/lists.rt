@@ -102,12 +102,7 @@ pub fn bit_lists(alloc: Global, words: &[u64], most: u32) -> Result<Vec<Growing>
 }
 
 /// The positions in the range whose word has some bit, rising.
-pub fn with_some_bit(
-    alloc: Global,
-    words: &[u64],
-    low: Pos,
-    high: Pos,
-) -> Result<Vec<Pos>, Memory>
+pub fn with_some_bit(alloc: Global, words: &[u64], low: Pos, high: Pos) -> Result<Vec<Pos>, Memory>
     requires range { low ≤ high }
     requires inside { high ≤ length words.now }
     ensures { IfOk result (λ found. found.items ≡ filter (λ u. not (slice_index words.now u == 0)) (range_with_len low (high - low))) }

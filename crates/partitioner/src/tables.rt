@@ -1,6 +1,5 @@
-ghost use Rattle.std.specs.Prelude.{◌≡◌, ◌≤◌, ◌^◌, ◌&&◌, ℕ, nat_lt, IfOk, filter, length, slice_index};
+ghost use Rattle.std.specs.Prelude.{◌≡◌, ◌≤◌, ◌<◌, ◌&&◌, ℕ, nat_lt, All, IfOk, filter, length, slice_index};
 ghost use Rattle.px_base.specs.Values.{by_position, positions_below};
-ghost use Rattle.px_base.specs.Graphs.{RowsFit};
 ghost use Rattle.px_base.specs.Parts.{IsWorkerCuts, is_mirror, part_count, routes_of};
 ghost use Rattle.partitioner.specs.Bits.{has_bit};
 
@@ -38,7 +37,8 @@ pub fn routes_by(
     graph: &ReadGraph,
     cuts: &Cuts,
 ) -> Result<RouteTable, Memory>
-    requires rows { RowsFit graph.now.n graph.now.rows }
+    requires one_each { length graph.now.rows ≡ graph.now.n }
+    requires sources { All (λ row. All (λ r. r.source < graph.now.n) row) graph.now.rows }
     requires cuts { IsWorkerCuts graph.now.n cuts.now.ends }
     requires size { length words.now ≡ graph.now.n }
     requires bits { (u k : ℕ) → has_bit (slice_index words.now u) k ≡ (nat_lt k (part_count cuts.now.ends) && is_mirror graph.now.rows cuts.now.ends k u) }
@@ -53,7 +53,8 @@ pub fn routes_by(
 /// # Errors
 /// `Memory` where there is no room for the table.
 pub fn routes(alloc: Global, graph: &ReadGraph, cuts: &Cuts) -> Result<RouteTable, Memory>
-    requires rows { RowsFit graph.now.n graph.now.rows }
+    requires one_each { length graph.now.rows ≡ graph.now.n }
+    requires sources { All (λ row. All (λ r. r.source < graph.now.n) row) graph.now.rows }
     requires cuts { IsWorkerCuts graph.now.n cuts.now.ends }
     ensures { IfOk result (λ table. table.to ≡ routes_of graph.now.rows cuts.now.ends) }
 {

@@ -14,7 +14,13 @@ use std::alloc::Global;
 
 /// The boundary of part `i`, by the words of all positions.
 #[tactic(auto, using(crate::proofs::Owned::low_below_high, crate::proofs::Owned::high_inside))]
-fn boundary_by(alloc: Global, words: &[u64], graph: &ReadGraph, cuts: &Cuts, i: u32) -> Result<Vec<Pos>, Memory>
+fn boundary_by(
+    alloc: Global,
+    words: &[u64],
+    graph: &ReadGraph,
+    cuts: &Cuts,
+    i: u32,
+) -> Result<Vec<Pos>, Memory>
     requires cuts { IsWorkerCuts graph.now.n cuts.now.ends }
     requires part { i < part_count cuts.now.ends }
     requires size { length words.now ≡ graph.now.n }
@@ -78,7 +84,12 @@ fn parts_by(
 }
 
 /// The mirrors of each part, by the words of all positions.
-fn mirror_lists(alloc: Global, words: &[u64], graph: &ReadGraph, cuts: &Cuts) -> Result<Vec<Growing>, Memory>
+fn mirror_lists(
+    alloc: Global,
+    words: &[u64],
+    graph: &ReadGraph,
+    cuts: &Cuts,
+) -> Result<Vec<Growing>, Memory>
     requires rows { RowsFit graph.now.n graph.now.rows }
     requires most { graph.now.n ≤ 2 ^ 22 }
     requires cuts { IsWorkerCuts graph.now.n cuts.now.ends }

@@ -3,7 +3,6 @@
 ghost use Rattle.std.specs.Prelude.{◌≡◌, ◌==◌, ◌≤◌, ◌<◌, ◌+◌, ◌-◌, ◌^◌, ◌&&◌, ◌||◌, ℕ, false, true, not, nat_lt, All, IfOk, filter, length, slice_index};
 ghost use Rattle.std.specs.List.{list_any};
 ghost use Rattle.px_base.specs.Values.{positions_below};
-ghost use Rattle.px_base.specs.Graphs.{RowsFit};
 ghost use Rattle.px_base.specs.Parts.{IsWorkerCuts, is_mirror, is_within, part_count, reads_from};
 ghost use Rattle.partitioner.specs.Bits.{has_bit};
 
@@ -100,7 +99,8 @@ fn mark_rows(words: &mut [u64], rows: &[Items<Read>], low: Pos, high: Pos, j: u3
 #[tactic(auto, using(crate::proofs::Fitting::part_sources_below, crate::proofs::Owned::low_below_high, crate::proofs::Owned::high_inside))]
 fn mark_part(words: &mut [u64], graph: &ReadGraph, cuts: &Cuts, j: u32)
     requires size { length words.old ≡ graph.now.n }
-    requires rows { RowsFit graph.now.n graph.now.rows }
+    requires one_each { length graph.now.rows ≡ graph.now.n }
+    requires sources { All (λ row. All (λ r. r.source < graph.now.n) row) graph.now.rows }
     requires cuts { IsWorkerCuts graph.now.n cuts.now.ends }
     requires part { j < part_count cuts.now.ends }
     ensures { (u k : ℕ) → has_bit (slice_index words.new u) k ≡ (has_bit (slice_index words.old u) k || (k == j && is_mirror graph.now.rows cuts.now.ends j u)) }
@@ -116,7 +116,8 @@ fn mark_part(words: &mut [u64], graph: &ReadGraph, cuts: &Cuts, j: u32)
 fn mark_parts(words: &mut [u64], graph: &ReadGraph, cuts: &Cuts)
     requires size { length words.old ≡ graph.now.n }
     requires clear { (u k : ℕ) → has_bit (slice_index words.old u) k ≡ false }
-    requires rows { RowsFit graph.now.n graph.now.rows }
+    requires one_each { length graph.now.rows ≡ graph.now.n }
+    requires sources { All (λ row. All (λ r. r.source < graph.now.n) row) graph.now.rows }
     requires cuts { IsWorkerCuts graph.now.n cuts.now.ends }
     ensures { (u k : ℕ) → has_bit (slice_index words.new u) k ≡ (nat_lt k (part_count cuts.now.ends) && is_mirror graph.now.rows cuts.now.ends k u) }
 {
@@ -129,7 +130,8 @@ fn mark_parts(words: &mut [u64], graph: &ReadGraph, cuts: &Cuts)
 /// A word for each position, with bit j where part j mirrors it.
 #[tactic(auto, using(crate::proofs::BitWords::no_bit))]
 pub fn mirror_words(alloc: Global, graph: &ReadGraph, cuts: &Cuts) -> Result<Vec<u64>, Memory>
-    requires rows { RowsFit graph.now.n graph.now.rows }
+    requires one_each { length graph.now.rows ≡ graph.now.n }
+    requires sources { All (λ row. All (λ r. r.source < graph.now.n) row) graph.now.rows }
     requires cuts { IsWorkerCuts graph.now.n cuts.now.ends }
     ensures size { IfOk result (λ words. length words.items ≡ graph.now.n) }
     ensures bits { IfOk result (λ words. (u k : ℕ) →

@@ -16,7 +16,7 @@ loop-at-init c = record {
 pub loop-at-preserved : goal.loop-at-preserved
 loop-at-preserved c = record {
   so_far = found_next (has_bit c.args.word) c.loop-at.at c.next_bit-at-in-loop-at.result c.loop-at.found.items c.push.new.self.items (c.loop-at.invariant.next (omega arith))
-    c.next_bit-at-in-loop-at.ensures.from c.next_bit-at-in-loop-at.ensures.none c.loop-at.invariant.so_far (grind (arith, common_steps));
+      c.next_bit-at-in-loop-at.ensures.from c.next_bit-at-in-loop-at.ensures.none c.loop-at.invariant.so_far (grind (arith, common_steps));
   within = c.next_bit-at-in-loop-at.ensures.within;
   next = c.next_bit-at-in-loop-at.ensures.has;
 }

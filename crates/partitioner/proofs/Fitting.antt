@@ -16,7 +16,7 @@ use Rattle.px_base.specs.declared.graph.Part.{Part}
 use Rattle.px_base.specs.declared.memory.Memory.{Memory}
 use Rattle.px_base.specs.Values.{IsValue, positions_below, is_listed}
 use Rattle.px_base.specs.Graphs.{HasWeights, RowsFit, read_count}
-use Rattle.px_base.specs.Parts.{IsCuts, IsWorkerCuts, PartFits, low_of, high_of, part_count, is_within, is_known, is_master, is_mirror, is_routed, part_rows, part_of, mirrors_of, boundary_of, reads_from}
+use Rattle.px_base.specs.Parts.{IsCuts, IsWorkerCuts, PartFits, low_of, high_of, part_count, is_within, is_known, is_master, is_mirror, is_routed, part_rows, part_of, mirrors_of, boundary_of, route_of, reads_from}
 use Rattle.partitioner.proofs.Owned.{low_below_high, high_inside}
 use Rattle.partitioner.proofs.Found.{position_has}
 use Rattle.partitioner.proofs.Boundaries.{within}
@@ -137,3 +137,23 @@ part_sources n rows all low high same fit =
 
 pub mirrors_within : (rows : List (List Read)) (starts cuts mirrors : List ℕ) (n i : ℕ) → length starts ≡ n → RowsFit n rows → mirrors ≡ mirrors_of rows cuts i → All (λ u. u < length starts) mirrors
 mirrors_within rows starts cuts mirrors n i size fit is k d inside = omega (arith, fit.one_each, (let P : List ℕ → Type 0 = λ xs. All (λ u. u < length rows) xs in subst P (sym is) (mirrors_below rows cuts i)) k d inside)
+
+pub part_sources_below : (n m : ℕ) (rows all : List (List Read)) (low high : ℕ) → all ≡ rows → m ≡ n → All (λ row. All (λ r. r.source < n) row) rows → All (λ row. All (λ r. r.source < m) row) (slice_range all low high)
+part_sources_below n m rows all low high same size sources =
+    let P : List (List Read) → Type 0 = λ xs. All (λ row. All (λ r. r.source < m) row) (slice_range xs low high) in
+    subst P (sym same) (part_holds (λ row. All (λ r. r.source < m) row) rows low high (λ k d inside i e below. omega (arith, sources k d inside i e below)))
+
+-- ---- mirrors and routes
+
+listed_is : (p : ℕ → Bool) (n u : ℕ) → u < n → is_listed (filter p (positions_below n)) u ≡ p u
+listed_is p n u low =
+    any-filter_same (λ item. item == u) p (p u) (λ k same. ap p (eqb-true k u same)) (positions_below n)
+    ∙ ap (λ b. p u && b) (position_has (λ item. item == u) n u low (eq-eqb u u refl)) ∙ and_true (p u)
+  where
+    and_true : (b : Bool) → (b && true) ≡ b
+    and_true true = refl
+    and_true false = refl
+
+-- v stands among the mirrors of part j exactly where j stands on its route
+pub mirror_on_route : (rows : List (List Read)) (cuts : List ℕ) (v j : ℕ) → v < length rows → j < part_count cuts → is_listed (mirrors_of rows cuts j) v ≡ is_listed (route_of rows cuts v) j
+mirror_on_route rows cuts v j inside low = listed_is (is_mirror rows cuts j) (length rows) v inside ∙ sym (listed_is (λ i. is_mirror rows cuts i v) (part_count cuts) j low)

@@ -1,3 +1,4 @@
+pub mod BitWords
 pub mod Blocks
 pub mod Boundaries
 pub mod Fitting
@@ -5,3 +6,4 @@ pub mod Found
 pub mod Marked
 pub mod Owned
 pub mod Ranges
+pub mod Routed

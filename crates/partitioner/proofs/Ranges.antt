@@ -1,5 +1,6 @@
 -- Filters of the positions of a range.
-use Rattle.std.proofs.Common.{◌≡◌, ℕ, zero, suc, ◌+◌, ◌-◌, ◌<◌, ◌≤◌, Bool, true, false, cond, List, [], ◌∷◌, ◌++◌, refl, ap, ◌∙◌, arith, add-one, zero-add, add-zero, sym, append-nil}
+use Rattle.std.proofs.Common.{◌≡◌, ℕ, zero, suc, ◌+◌, ◌-◌, ◌<◌, ◌≤◌, Bool, true, false, cond, List, [], ◌∷◌, ◌++◌, refl, ap, ◌∙◌, arith, add-one, zero-add, add-zero, sym, append-nil, inl, inr}
+use Rattle.std.proofs.lemmas.Bool.{cases_lt}
 use Rattle.std.specs.Prelude.{filter}
 use Rattle.std.specs.List.{range_with_len}
 use Rattle.std.proofs.lemmas.List.Elements.{filter-append}
@@ -42,3 +43,21 @@ placed_yes p at before now here is more = more ∙ ap (λ xs. xs ++ at ∷ []) i
 
 pub placed_no : (p : ℕ → Bool) (at : ℕ) (before now : List ℕ) → p at ≡ false → before ≡ filter p (positions_below at) → now ≡ before → now ≡ filter p (positions_below (at + 1))
 placed_no p at before now fails is same = same ∙ is ∙ sym (filter_positions_more p at ∙ ap (λ b. filter p (positions_below at) ++ cond b (at ∷ []) []) fails ∙ append-nil (filter p (positions_below at)))
+
+-- ---- a stretch in which nothing passes
+
+gap_at : (p : ℕ → Bool) (m n : ℕ) → p n ≡ false → filter p (positions_below n) ≡ filter p (positions_below m) → filter p (positions_below (n + 1)) ≡ filter p (positions_below m)
+gap_at p m n fails rest = filter_positions_more p n ∙ ap (λ b. filter p (positions_below n) ++ cond b (n ∷ []) []) fails ∙ append-nil (filter p (positions_below n)) ∙ rest
+
+pub gap : (p : ℕ → Bool) (m n : ℕ) → m ≤ n → ((k : ℕ) → m ≤ k → k < n → p k ≡ false) → filter p (positions_below n) ≡ filter p (positions_below m)
+gap p m zero within none = let same : m ≡ 0 = omega arith in ap (λ k. filter p (positions_below k)) (sym same)
+gap p m (suc n) within none = elim (cases_lt n m) [
+  | inl end ↦ (let same : suc n ≡ m = omega arith in ap (λ k. filter p (positions_below k)) same)
+  | inr more ↦ (let one : n + 1 ≡ suc n = omega arith in
+      ap (λ k. filter p (positions_below k)) (sym one) ∙ gap_at p m n (none n more (omega arith)) (gap p m n more (λ k low high. none k low (omega arith))))
+]
+
+-- one that passes, and then a stretch in which nothing passes
+pub found_next : (p : ℕ → Bool) (at next : ℕ) (before now : List ℕ) → p at ≡ true → at + 1 ≤ next → ((k : ℕ) → at + 1 ≤ k → k < next → p k ≡ false) →
+    before ≡ filter p (positions_below at) → now ≡ before ++ at ∷ [] → now ≡ filter p (positions_below next)
+found_next p at next before now here after none is more = placed_yes p at before now here is more ∙ sym (gap p (at + 1) next after none)

@@ -3,8 +3,16 @@
 #![tactic(auto)]
 
 mod cuts;
+mod laws;
+mod lists;
 mod marks;
 mod parts;
+mod tables;
+mod whole;
+mod words;
 
 pub use cuts::{Cuts, cut, owner};
+pub use laws::{blocks_are_cuts, mirrors_are_routed, one_owner, parts_fit};
 pub use parts::part;
+pub use tables::{RouteTable, routes};
+pub use whole::parts_and_routes;

@@ -141,7 +141,7 @@ fn boundary_of_part(
 
 /// Part `i` with these mirrors and this boundary.
 #[tactic(auto, using(crate::proofs::Fitting::mirrors_within, crate::proofs::Fitting::part_is, crate::proofs::Owned::low_below_high, crate::proofs::Owned::high_inside))]
-fn assemble(
+pub fn assemble(
     alloc: Global,
     graph: &ReadGraph,
     starts: &[Value],

@@ -1,4 +1,6 @@
 pub mod Commands
 pub mod Endings
-pub mod Stillness
 pub mod Runs
+pub mod Solutions
+pub mod Stillness
+pub mod Stops

@@ -2,8 +2,11 @@
 #![tactic(auto)]
 
 mod rounds;
+mod run;
+mod solve;
+mod stop;
 mod text;
 mod words;
 
-pub use rounds::solved_in_rounds;
+pub use run::phoenix;
 pub use text::answer_text;

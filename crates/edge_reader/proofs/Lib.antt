@@ -1,2 +1,4 @@
-pub mod SmallNumbers
+pub mod EdgesWithin
 pub mod LineScans
+pub mod SmallNumbers
+pub mod Texts

@@ -1,4 +1,5 @@
 pub mod EdgesWithin
 pub mod LineScans
+pub mod MoreLines
 pub mod SmallNumbers
 pub mod Texts

@@ -5,8 +5,8 @@ use Rattle.px_base.specs.declared.graph.EdgeList.{EdgeList}
 use Rattle.px_base.specs.Lines.{IdEdge, IsEdgeListOf, LineFault, missing, bad_id, bad_weight}
 use Rattle.px_base.specs.Inputs.{InputFault, bad_line, too_many_edges, too_long, too_many_vertices, input_of, input_limits}
 use Rattle.std.specs.Prelude.{Bool}
-use Rattle.edge_reader.specs.declared.EdgeFault.{EdgeFault}
-use Rattle.edge_reader.specs.declared.EdgeFault.TheVariants.{Missing, BadId, BadWeight, TooManyVertices, TooManyEdges, TooLong, ReadFault, Memory}
+use Rattle.edge_reader.specs.declared.fault.EdgeFault.{EdgeFault}
+use Rattle.edge_reader.specs.declared.fault.EdgeFault.TheVariants.{Missing, BadId, BadWeight, TooManyVertices, TooManyEdges, TooLong, ReadFault, Memory}
 
 -- the line with this number is the first fault, and this is wrong with it
 abbrev pub IsBadLine : ℕ → LineFault → Result (List IdEdge) InputFault → Type 0

@@ -1,0 +1,52 @@
+ghost use Rattle.std.specs.Prelude.{◌≡◌, ◌<◌, ◌≤◌, [], Err, IfOk, length, vec_len};
+ghost use Rattle.px_io.specs.Causes.{Rose};
+ghost use Rattle.edge_reader.specs.Lists.{AreRead, ReadsAll};
+
+use crate::EdgeFault;
+use crate::lines::ReadLines;
+use crate::scan::Scan;
+use px_io::Source;
+use std::alloc::{AllocError, Global};
+
+/// The most bytes of an input.
+const MOST_BYTES: u64 = (1 << 32) - 1;
+
+/// How many bytes are asked of the source at once.
+const PIECE: usize = 1 << 16;
+
+fn zeros(alloc: Global, size: usize) -> Result<Vec<u8>, AllocError>
+    ensures { IfOk result (λ v. vec_len v ≡ size) }
+{
+    vec![in alloc; 0u8; size]
+}
+
+/// Reads lines to the end of the source.
+fn read_lines<S: Source>(
+    source: &mut S,
+    space: &mut [u8],
+    lines: &mut ReadLines,
+) -> Result<(), EdgeFault>
+    requires room { 0 < length space.old }
+    requires fresh { AreRead [] lines.old }
+    ensures read { ReadsAll lines.old.weighted (S.left source.old) (S.left source.new) lines.new result }
+    ensures cause { result ≡ Err EdgeFault.ReadFault → Rose (S.faults source.old) (S.faults source.new) }
+    ensures faults_later { S.faults source.old ≤ S.faults source.new }
+{
+    let mut scan = Scan::new();
+    let mut total: u64 = 0;
+    loop {
+        let Ok(count) = source.take(space) else {
+            return Err(EdgeFault::ReadFault);
+        };
+        if count == 0 {
+            return lines.end_line(scan.judged());
+        }
+        let room = MOST_BYTES - total;
+        if count as u64 > room {
+            lines.feed(scan, &space[..room as usize])?;
+            return Err(EdgeFault::TooLong);
+        }
+        scan = lines.feed(scan, &space[..count])?;
+        total += count as u64;
+    }
+}

@@ -3,3 +3,4 @@ pub mod LineScans
 pub mod MoreLines
 pub mod SmallNumbers
 pub mod Texts
+pub mod WholeInputs

@@ -18,7 +18,7 @@ use Rattle.edge_reader.proofs.Texts.{ended_newline, open_newline, ended_byte, op
 
 -- ---- one line more
 
-abbrev outcome : Bool → List (List ℕ) → Result (List IdEdge) InputFault
+abbrev pub outcome : Bool → List (List ℕ) → Result (List IdEdge) InputFault
 outcome w lines = edges_within w 1 input_limits.edges lines
 
 pub skipped_more : (lines : List (List ℕ)) (line : List ℕ) (old new : ReadLines) → AreRead lines old → line_of old.weighted line ≡ skipped → new.weighted ≡ old.weighted → new.line ≡ old.line + 1 →

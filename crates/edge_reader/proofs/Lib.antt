@@ -4,3 +4,7 @@ pub mod MoreLines
 pub mod SmallNumbers
 pub mod Texts
 pub mod WholeInputs
+pub mod DistinctIds
+pub mod PlacedEnds
+pub mod Numbering
+pub mod Finished

@@ -1,13 +1,13 @@
 -- What the bytes that were taken say of the whole input.
-use Rattle.std.proofs.Common.{◌≡◌, ℕ, ◌+◌, ◌-◌, ◌≤◌, ◌<◌, ◌^◌, Bool, true, false, cond, List, [], ◌∷◌, ◌++◌, length, take, drop, refl, sym, ap, ◌∙◌, subst, arith, append-nil, append_assoc, length-append}
+use Rattle.std.proofs.Common.{◌≡◌, ℕ, ◌+◌, ◌-◌, ◌*◌, ◌≤◌, ◌<◌, ◌^◌, Bool, true, false, cond, List, [], ◌∷◌, ◌++◌, length, map, take, drop, refl, sym, ap, ◌∙◌, subst, arith, append-nil, append_assoc, length-append}
 use Rattle.std.specs.Prelude.{Option, Some, None, Result, Ok, Err, ◌≢◌, nat_lt}
 use Rattle.std.specs.Io.KnownBytes.{Consumes, IsAtEnd, Keeps}
-use Rattle.std.proofs.KnownBytes.{Consumes-trans, Consumes-kept}
+use Rattle.std.proofs.KnownBytes.{Consumes-nil, Consumes-trans, Consumes-kept}
 use Rattle.std.proofs.lemmas.Bool.{le-ltb, lt-ltb, ltb-true, ltb-false}
 use Rattle.std.proofs.Math.Seq.{take-append-add}
-use Rattle.std.proofs.lemmas.List.{take-append-drop, take-take, take_at, length-take-le, length-drop}
+use Rattle.std.proofs.lemmas.List.{take-append-drop, take-take, take_at, length-take-le, length-drop, length-map}
 use Rattle.px_base.specs.declared.graph.EdgeList.{EdgeList}
-use Rattle.px_base.specs.Lines.{IdEdge, lines_of}
+use Rattle.px_base.specs.Lines.{IdEdge, lines_of, ends_of}
 use Rattle.px_base.specs.Inputs.{InputFault, too_long, edges_within, ended_lines, input_limits, input_of, result_at_end, result_cut_short}
 use Rattle.edge_reader.specs.declared.fault.EdgeFault.{EdgeFault}
 use Rattle.edge_reader.specs.declared.fault.EdgeFault.TheVariants.{Missing, BadId, BadWeight, TooManyVertices, TooManyEdges, TooLong, ReadFault, Memory}
@@ -18,6 +18,7 @@ use Rattle.edge_reader.specs.Lists.{AreRead, IsLineFault, Adds, Feeds, open_line
 use Rattle.edge_reader.proofs.EdgesWithin.{pieces_say}
 use Rattle.edge_reader.proofs.Texts.{ended_begin, ended_begin_all, BeginsLines, pieces_split}
 use Rattle.edge_reader.proofs.MoreLines.{outcome, says_stays}
+use Rattle.edge_reader.proofs.PlacedEnds.{ends_length}
 
 -- ---- the outcome of an input, by its length
 
@@ -166,3 +167,22 @@ more_left space room count h inside = omega (arith, length-drop room (take count
 pub line_is_no_read_fault : {T : Type 0} (lines : List (List ℕ)) (read : ReadLines) (result : Result T EdgeFault) → Adds lines read result → result ≡ Err ReadFault → ⊥
 line_is_no_read_fault lines read (Ok x) adds e = cc
 line_is_no_read_fault lines read (Err fault) adds e = adds.own (let same : fault ≡ ReadFault = cc in same)
+
+-- ---- the whole reading
+
+pub both_ends : (lines : List (List ℕ)) (read : ReadLines) → AreRead lines read → (length read.ends.items ≡ 2 * length read.weights.items) × (length read.weights.items ≤ 2 ^ 24)
+both_ends lines read a =
+    let count : length read.weights.items ≡ length a.edges = ap length a.weights ∙ length-map a.edges (λ e. e.weight) in
+    (omega (arith, ap length a.ends, ends_length a.edges, count), omega (arith, a.few, count))
+
+-- all lines are read, and say this
+pub reading_is : (w : Bool) (left rest : Option (List ℕ)) (read : ReadLines) (result : Result EdgeList EdgeFault) → AreAllRead w left rest read →
+    ((edges : List IdEdge) → read.ends.items ≡ ends_of edges → read.weights.items ≡ map (λ e. e.weight) edges → Says result (result_at_end input_limits.vertices (Ok edges))) → IsReadingOf w left rest result
+reading_is w left rest read result a says =
+    let said : outcome w (lines_of a.text) ≡ Ok a.lines.edges = pieces_say w a.text 1 input_limits.edges ∙ ap (λ v. outcome v (newline_pieces a.text)) (sym a.same) ∙ a.lines.said in
+    let whole : input_of input_limits w a.text ≡ result_at_end input_limits.vertices (Ok a.lines.edges) = within_limit w a.text a.short ∙ ap (result_at_end input_limits.vertices) said in
+    reading_at_end w left rest a.text result a.lost a.ended (subst (Says result) (sym whole) (says a.lines.edges a.lines.ends a.lines.weights))
+
+-- want of memory says nothing
+pub reading_wants : (w : Bool) (left : Option (List ℕ)) → IsReadingOf w left left (Err Memory)
+reading_wants w left = reading_of_fault w left left [] Memory (Consumes-nil left) (λ more. tt)

@@ -1,4 +1,5 @@
-use std::alloc::{AllocError, AllocFailed};
+use px_base::Memory;
+use std::alloc::AllocFailed;
 
 /// Why no edge list was read. A line's number counts from 1.
 #[derive(Clone, Copy, Debug, PartialEq, Eq)]
@@ -21,13 +22,13 @@ pub enum EdgeFault {
     Memory,
 }
 
-impl From<AllocError> for EdgeFault {
+impl From<Memory> for EdgeFault {
     ghost use Rattle.std.specs.Prelude.{◌≡◌};
     ghost use Rattle.edge_reader.specs.declared.fault.EdgeFault.TheVariants as kind;
 
     ghost from_gives = { λ _ e. e ≡ kind.Memory };
 
-    fn from(_error: AllocError) -> EdgeFault {
+    fn from(_want: Memory) -> EdgeFault {
         EdgeFault::Memory
     }
 }
@@ -38,7 +39,7 @@ impl<T: Drop> From<AllocFailed<T>> for EdgeFault {
 
     ghost from_gives = { λ _ e. e ≡ kind.Memory };
 
-    fn from(_error: AllocFailed<T>) -> EdgeFault {
+    fn from(_want: AllocFailed<T>) -> EdgeFault {
         EdgeFault::Memory
     }
 }

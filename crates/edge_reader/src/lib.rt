@@ -2,8 +2,11 @@
 #![tactic(auto)]
 
 mod fault;
+mod finish;
 mod lines;
+mod places;
 mod reader;
 mod scan;
 
 pub use fault::EdgeFault;
+pub use reader::read_edges;

@@ -1,0 +1,10 @@
+pub mod EdgesWithin
+pub mod LineScans
+pub mod MoreLines
+pub mod SmallNumbers
+pub mod Texts
+pub mod WholeInputs
+pub mod DistinctIds
+pub mod PlacedEnds
+pub mod Numbering
+pub mod Finished

@@ -1,0 +1,12 @@
+//! Reads an edge list: text lines of two ids and maybe a weight.
+#![tactic(auto)]
+
+mod fault;
+mod finish;
+mod lines;
+mod places;
+mod reader;
+mod scan;
+
+pub use fault::EdgeFault;
+pub use reader::read_edges;

@@ -1,0 +1,97 @@
+ghost use Rattle.std.specs.Prelude.{◌≡◌, ℕ, ◌+◌, ◌<◌, ◌^◌, List, [], ◌∷◌, ◌++◌, Ok, OnOk, IfErr, length};
+ghost use Rattle.px_base.specs.Lines.{line_of};
+ghost use Rattle.px_base.specs.Inputs.{ended_lines, input_limits};
+ghost use Rattle.edge_reader.specs.Scans.{scanned, line_said};
+ghost use Rattle.edge_reader.specs.Lists.{AreRead, Adds, RefusesEdge, Feeds, open_line};
+
+use crate::EdgeFault;
+use crate::scan::{Said, Scan};
+use std::alloc::Global;
+
+/// The most edge lines.
+const MOST_EDGES: usize = 1 << 24;
+
+/// The lines that have ended: the ids of both ends of each edge, one after the other, and its weight.
+#[derive(Drop)]
+pub struct ReadLines {
+    pub weighted: bool,
+    /// The number of the next line.
+    pub line: u64,
+    pub ends: Vec<u32>,
+    pub weights: Vec<u32>,
+}
+
+impl ReadLines {
+    pub fn new(alloc: Global, weighted: bool) -> ReadLines
+        ensures read { AreRead [] result }
+        ensures weighted { result.weighted ≡ weighted }
+    {
+        ReadLines {
+            weighted,
+            line: 1,
+            ends: Vec::new(alloc),
+            weights: Vec::new(alloc),
+        }
+    }
+
+    /// Adds an edge. After an error part of it may have been added.
+    fn add(&mut self, source: u32, target: u32, weight: u32) -> Result<(), EdgeFault>
+        ensures ends { OnOk result (self.new.ends.items ≡ self.old.ends.items ++ source ∷ target ∷ []) }
+        ensures weights { OnOk result (self.new.weights.items ≡ self.old.weights.items ++ weight ∷ []) }
+        ensures room { OnOk result (length self.old.weights.items < input_limits.edges) }
+        ensures refused { IfErr result (λ fault. RefusesEdge (length self.old.weights.items) fault) }
+        ensures line { self.new.line ≡ self.old.line }
+        ensures weighted { self.new.weighted ≡ self.old.weighted }
+    {
+        if self.weights.len() >= MOST_EDGES {
+            return Err(EdgeFault::TooManyEdges);
+        }
+        self.ends.push(source)?;
+        self.ends.push(target)?;
+        self.weights.push(weight)?;
+        Ok(())
+    }
+
+    /// Ends a line that says this.
+    pub fn end_line(&mut self, said: Said) -> Result<(), EdgeFault>
+        ensures weighted { self.new.weighted ≡ self.old.weighted }
+        ensures adds { (lines : List (List ℕ)) (line : List ℕ) → AreRead lines self.old → line_of self.old.weighted line ≡ line_said said → length lines < 2 ^ 32 → Adds (lines ++ line ∷ []) self.new result }
+    {
+        let line = self.line;
+        self.line = line.saturating_add(1);
+        match said {
+            Said::Skipped => Ok(()),
+            Said::Edge {
+                source,
+                target,
+                weight,
+            } => self.add(source, target, weight),
+            Said::Missing => Err(EdgeFault::Missing { line }),
+            Said::BadId => Err(EdgeFault::BadId { line }),
+            Said::BadWeight => Err(EdgeFault::BadWeight { line }),
+        }
+    }
+
+    fn one_byte(&mut self, scan: Scan, byte: u8) -> Result<Scan, EdgeFault>
+        ensures weighted { self.new.weighted ≡ self.old.weighted }
+        ensures fed { (text : List ℕ) → Feeds text self.old (Ok scan) → length text < 2 ^ 32 → Feeds (text ++ byte ∷ []) self.new result }
+    {
+        if byte == b'\n' {
+            self.end_line(scan.judged())?;
+            Ok(Scan::new())
+        } else {
+            Ok(scan.next_byte(self.weighted, byte))
+        }
+    }
+
+    /// Reads on in a piece of the text. The scan knows the line that is open.
+    pub fn feed(&mut self, mut scan: Scan, piece: &[u8]) -> Result<Scan, EdgeFault>
+        ensures weighted { self.new.weighted ≡ self.old.weighted }
+        ensures fed { (text : List ℕ) → Feeds text self.old (Ok scan) → length (text ++ piece.now) < 2 ^ 32 → Feeds (text ++ piece.now) self.new result }
+    {
+        for byte in piece {
+            scan = self.one_byte(scan, *byte)?;
+        }
+        Ok(scan)
+    }
+}

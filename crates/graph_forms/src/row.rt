@@ -46,6 +46,19 @@ impl<T> Row<T> {
         self.items.len()
     }
 
+    pub fn from_vec(items: Vec<T>) -> Row<T>
+        ensures { result ≡ items.items }
+    {
+        Row { items }
+    }
+
+    pub fn into_vec(self) -> Vec<T>
+        ensures { result.items ≡ self }
+    {
+        let Row { items } = self;
+        items
+    }
+
     pub fn into_items(self) -> Items<T>
         ensures { result ≡ self }
     {

@@ -11,6 +11,7 @@ use crate::row::Row;
 use px_base::{Edge, EdgeList, Form, Items, Memory, Pos, Read, ReadGraph, Reads};
 use std::alloc::Global;
 
+/// Rows of what each target reads.
 fn given_rows(alloc: Global, counts: &[u32], edges: &[Edge]) -> Result<Vec<Row<Read>>, Memory>
     requires ends { All (λ e. e.target < length counts.now) edges.now }
     ensures reads { IfOk result (λ rows. rows.items ≡ by_position (length counts.now) (reads_of Form.Given (length counts.now) edges.now)) }
@@ -21,6 +22,7 @@ fn given_rows(alloc: Global, counts: &[u32], edges: &[Edge]) -> Result<Vec<Row<R
     Ok(rows)
 }
 
+/// Rows of what each source reads.
 fn back_rows(alloc: Global, counts: &[u32], edges: &[Edge]) -> Result<Vec<Row<Read>>, Memory>
     requires ends { All (λ e. e.source < length counts.now) edges.now }
     ensures reads { IfOk result (λ rows. rows.items ≡ by_position (length counts.now) (reads_of Form.Back (length counts.now) edges.now)) }
@@ -31,6 +33,7 @@ fn back_rows(alloc: Global, counts: &[u32], edges: &[Edge]) -> Result<Vec<Row<Re
     Ok(rows)
 }
 
+/// Rows of neighbours, in the order of the edges and as often as an edge names them.
 fn neighbour_rows(alloc: Global, counts: &[u32], edges: &[Edge]) -> Result<Vec<Row<Pos>>, Memory>
     requires ends { All (λ e. (e.source < length counts.now) × (e.target < length counts.now)) edges.now }
     ensures one_each { IfOk result (λ rows. length rows.items ≡ length counts.now) }
@@ -42,6 +45,7 @@ fn neighbour_rows(alloc: Global, counts: &[u32], edges: &[Edge]) -> Result<Vec<R
     Ok(rows)
 }
 
+/// Rows of what each vertex reads, where it reads each neighbour once.
 fn simple_rows(alloc: Global, counts: &[u32], edges: &[Edge]) -> Result<Vec<Row<Read>>, Memory>
     requires ends { All (λ e. (e.source < length counts.now) × (e.target < length counts.now)) edges.now }
     ensures reads { IfOk result (λ rows. rows.items ≡ by_position (length counts.now) (reads_of Form.Simple (length counts.now) edges.now)) }

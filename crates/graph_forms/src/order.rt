@@ -48,14 +48,7 @@ pub fn before(graph: &ReadGraph, rank: Rank, a: Pos, b: Pos) -> bool
     requires b { b < graph.now.n }
     ensures { result ≡ stands_before rank graph.now.degrees a b }
 {
-    match rank {
-        Rank::ById => a < b,
-        Rank::ByDegree => {
-            let degrees = graph.degrees.as_slice();
-            let (first, second) = (degrees[a as usize], degrees[b as usize]);
-            second < first || (first == second && a < b)
-        }
-    }
+    stands_before(rank, graph.degrees.as_slice(), a, b)
 }
 
 /// The same over the degrees alone. A vertex without an entry has the degree 0.

@@ -88,6 +88,7 @@ impl Row<Read> {
     }
 }
 
+/// Leaves out the reads whose source does not stand before v.
 fn keep_earlier(reads: &mut Vec<Read>, rank: Rank, degrees: &[u32], v: Pos)
     ensures fewer { vec_len reads.new ≤ vec_len reads.old }
     ensures kept { reads.new.items ≡ filter (λ r. stands_before rank degrees.now r.source v) reads.old.items }

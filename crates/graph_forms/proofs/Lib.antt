@@ -1,2 +1,4 @@
 pub mod Filled
 pub mod Made
+pub mod Members
+pub mod Sets

@@ -2,7 +2,7 @@ ghost use Rattle.std.specs.Prelude.{◌≡◌, ◌≤◌, ◌<◌, ◌^◌, ℕ,
 ghost use Rattle.px_base.specs.Graphs.{IsRowOf, kept_reads, read_count, row_at, stands_before};
 
 use crate::row::Row;
-use px_base::{Items, Memory, Pos, Rank, Read, Reads};
+use px_base::{Items, Memory, Pos, Rank, Read, ReadGraph, Reads};
 use std::alloc::Global;
 
 /// How many reads each row has.
@@ -15,20 +15,6 @@ pub fn row_lengths(alloc: Global, rows: &[Row<Read>]) -> Result<Vec<u32>, Memory
         .map(|row| row.len() as u32)
         .collect::<Vec<u32>>(alloc)?;
     Ok(lengths)
-}
-
-/// Whether a stands before b. A vertex without an entry has the degree 0.
-pub fn stands_before(rank: Rank, degrees: &[u32], a: Pos, b: Pos) -> bool
-    ensures { result ≡ stands_before rank degrees.now a b }
-{
-    match rank {
-        Rank::ById => a < b,
-        Rank::ByDegree => {
-            let high = degrees.get(a as usize).copied().unwrap_or(0);
-            let low = degrees.get(b as usize).copied().unwrap_or(0);
-            low < high || (high == low && a < b)
-        }
-    }
 }
 
 /// Leaves out the reads that are not kept, and puts each row in order.
@@ -52,4 +38,29 @@ pub fn given_away(alloc: Global, rows: Vec<Row<Read>>) -> Result<Items<Items<Rea
         items.push(row.into_items())?;
     }
     Ok(Items::from_vec(items))
+}
+
+/// Whether a stands before b in the rank: by position where the lower stands first, or by degree where the higher does,
+/// and of equal degrees the lower position.
+pub fn before(graph: &ReadGraph, rank: Rank, a: Pos, b: Pos) -> bool
+    requires degrees { length graph.now.degrees ≡ graph.now.n }
+    requires a { a < graph.now.n }
+    requires b { b < graph.now.n }
+    ensures { result ≡ stands_before rank graph.now.degrees a b }
+{
+    stands_before(rank, graph.degrees.as_slice(), a, b)
+}
+
+/// The same over the degrees alone. A vertex without an entry has the degree 0.
+pub fn stands_before(rank: Rank, degrees: &[u32], a: Pos, b: Pos) -> bool
+    ensures { result ≡ stands_before rank degrees.now a b }
+{
+    match rank {
+        Rank::ById => a < b,
+        Rank::ByDegree => {
+            let first = degrees.get(a as usize).copied().unwrap_or(0);
+            let second = degrees.get(b as usize).copied().unwrap_or(0);
+            second < first || (first == second && a < b)
+        }
+    }
 }

@@ -10,20 +10,27 @@ fn raise(counts: &mut [u32], v: Pos) {
     }
 }
 
-/// How many times each vertex is to get a read. It only says how much room to make, so no clause counts on it.
+fn raise_ends(counts: &mut [u32], form: Form, edge: Edge) {
+    match form {
+        Form::Given => raise(counts, edge.target),
+        Form::Back => raise(counts, edge.source),
+        Form::Simple => {
+            if edge.source != edge.target {
+                raise(counts, edge.source);
+                raise(counts, edge.target);
+            }
+        }
+    }
+}
+
+/// How many times each vertex is to get a read, where a neighbour counts once for each edge.
+/// It only says how much room to make, so no clause speaks of the counts.
 pub fn room_needed(alloc: Global, n: usize, form: Form, edges: &[Edge]) -> Result<Vec<u32>, Memory>
     ensures { IfOk result (λ counts. length counts.items ≡ n) }
 {
     let mut counts = vec![in alloc; 0u32; n]?;
     for edge in edges {
-        match form {
-            Form::Given => raise(&mut counts, edge.target),
-            Form::Back => raise(&mut counts, edge.source),
-            Form::Simple => {
-                raise(&mut counts, edge.source);
-                raise(&mut counts, edge.target);
-            }
-        }
+        raise_ends(&mut counts, form, *edge);
     }
     Ok(counts)
 }

@@ -46,6 +46,19 @@ impl<T> Row<T> {
         self.items.len()
     }
 
+    pub fn from_vec(items: Vec<T>) -> Row<T>
+        ensures { result ≡ items.items }
+    {
+        Row { items }
+    }
+
+    pub fn into_vec(self) -> Vec<T>
+        ensures { result.items ≡ self }
+    {
+        let Row { items } = self;
+        items
+    }
+
     pub fn into_items(self) -> Items<T>
         ensures { result ≡ self }
     {
@@ -75,6 +88,7 @@ impl Row<Read> {
     }
 }
 
+/// Leaves out the reads whose source does not stand before v.
 fn keep_earlier(reads: &mut Vec<Read>, rank: Rank, degrees: &[u32], v: Pos)
     ensures fewer { vec_len reads.new ≤ vec_len reads.old }
     ensures kept { reads.new.items ≡ filter (λ r. stands_before rank degrees.now r.source v) reads.old.items }

@@ -1,5 +1,5 @@
 -- A master is on the boundary exactly where a row outside its part reads it.
-use Rattle.std.proofs.Common.{◌≡◌, ℕ, ◌+◌, ◌-◌, ◌<◌, ◌≤◌, Bool, true, false, List, [], length, get_or, take, drop, refl, sym, ap, subst, ◌∙◌, arith, inl, inr}
+use Rattle.std.proofs.Common.{◌≡◌, ℕ, ◌+◌, ◌-◌, ◌<◌, ◌≤◌, Bool, true, false, List, [], length, take, drop, refl, sym, subst, ◌∙◌, arith, inl, inr}
 use Rattle.std.specs.Prelude.{not, ◌&&◌, ◌||◌, ◌⊎◌, filter, slice_range, Result, Ok, Err, IfOk}
 use Rattle.std.specs.List.{list_any, range_with_len}
 use Rattle.std.proofs.lemmas.Bool.{cases_lt}
@@ -7,7 +7,7 @@ use Rattle.std.proofs.lemmas.Bool.Decides.{nat_tests}
 use Rattle.px_base.specs.declared.graph.Read.{Read}
 use Rattle.px_base.specs.Parts.{IsCuts, IsOwner, low_of, high_of, part_count, is_within, is_master, is_mirror, is_routed, part_rows, reads_from, boundary_of}
 use Rattle.px_base.proofs.Owners.{one_owner}
-use Rattle.partitioner.proofs.Owned.{an_owner, low_below_high, high_inside, high_before_low}
+use Rattle.partitioner.proofs.Owned.{an_owner, low_below_high, high_before_low}
 use Rattle.partitioner.proofs.Found.{PassesAt, from_back, to_back, in_front, front_has, in_back, back_has, some_position, position_has}
 use Rattle.partitioner.proofs.Ranges.{filters_agree}
 

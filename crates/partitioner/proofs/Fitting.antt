@@ -1,12 +1,12 @@
 -- Each part of fitting rows fits.
-use Rattle.std.proofs.Common.{◌≡◌, ℕ, zero, suc, add-one, ◌+◌, ◌-◌, ◌^◌, ◌<◌, ◌≤◌, min, Bool, true, false, List, [], length, map, get_or, take, drop, refl, sym, ap, subst, ◌∙◌, arith, length-take, length-drop, eqb-true, eq-eqb}
+use Rattle.std.proofs.Common.{◌≡◌, ℕ, ◌+◌, ◌-◌, ◌^◌, ◌<◌, ◌≤◌, Bool, true, false, List, length, map, get_or, drop, refl, sym, ap, subst, ◌∙◌, arith, length-take, length-drop, eqb-true, eq-eqb}
 use Rattle.std.proofs.lemmas.List.{length-map}
 use Rattle.std.proofs.lemmas.List.Folds.{list_any_at}
 use Rattle.std.proofs.lemmas.Map.Views.{any-filter_same}
 use Rattle.std.specs.Prelude.{All, not, ◌==◌, ◌&&◌, ◌||◌, filter, slice_index, slice_range}
 use Rattle.std.specs.List.{list_any, range_with_len}
 use Rattle.std.specs.List.Sorted.{IsStrictlyIncreasing}
-use Rattle.std.proofs.lemmas.List.Elements.{All-take, All-drop, All-filter, All-map, All-weaker, filter_passes}
+use Rattle.std.proofs.lemmas.List.Elements.{All-take, All-drop, All-filter, All-map, filter_passes}
 use Rattle.std.proofs.lemmas.List.Kept.{IsStrictlyIncreasing-filter}
 use Rattle.std.proofs.lemmas.List.Sums.{sum_by-take-le, sum_by-take-drop}
 use Rattle.std.proofs.lemmas.List.FromFn.{length-range_with_len, get_or-range_with_len}
@@ -15,8 +15,8 @@ use Rattle.px_base.specs.declared.graph.Read.{Read}
 use Rattle.px_base.specs.declared.graph.Part.{Part}
 use Rattle.px_base.specs.declared.memory.Memory.{Memory}
 use Rattle.px_base.specs.Values.{IsValue, positions_below, is_listed}
-use Rattle.px_base.specs.Graphs.{HasWeights, RowsFit, read_count}
-use Rattle.px_base.specs.Parts.{IsCuts, IsWorkerCuts, PartFits, low_of, high_of, part_count, is_within, is_known, is_master, is_mirror, is_routed, part_rows, part_of, mirrors_of, boundary_of, route_of, reads_from}
+use Rattle.px_base.specs.Graphs.{RowsFit, read_count}
+use Rattle.px_base.specs.Parts.{IsCuts, IsWorkerCuts, PartFits, low_of, high_of, part_count, is_within, is_master, is_mirror, is_routed, part_rows, part_of, mirrors_of, boundary_of, route_of, reads_from}
 use Rattle.partitioner.proofs.Owned.{low_below_high, high_inside}
 use Rattle.partitioner.proofs.Found.{position_has}
 use Rattle.partitioner.proofs.Boundaries.{within}

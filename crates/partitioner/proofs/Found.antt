@@ -1,7 +1,7 @@
 -- Some element of a part of a list passes a test.
-use Rattle.std.proofs.Common.{◌≡◌, ℕ, ◌+◌, ◌-◌, ◌<◌, ◌≤◌, min, Bool, true, List, length, get_or, take, drop, ap, sym, ◌∙◌, arith, length-take, length-drop, get_or-take, get_or-drop, zero-add}
+use Rattle.std.proofs.Common.{◌≡◌, ℕ, ◌+◌, ◌-◌, ◌<◌, ◌≤◌, Bool, true, List, length, get_or, take, drop, ap, sym, ◌∙◌, arith, length-take, length-drop, get_or-take, get_or-drop, zero-add}
 use Rattle.std.specs.Prelude.{Any}
-use Rattle.std.specs.List.{list_any, range_with_len}
+use Rattle.std.specs.List.{list_any}
 use Rattle.std.proofs.lemmas.List.{get_or_default}
 use Rattle.std.proofs.lemmas.List.Folds.{Any-from_list_any, list_any_at}
 use Rattle.std.proofs.lemmas.List.FromFn.{length-range_with_len, get_or-range_with_len}

@@ -1,4 +1,4 @@
-use Rattle.std.proofs.Common.{arith, rules}
+use Rattle.std.proofs.Common.{rules}
 use Rattle.partitioner.proofs.Blocks.{cuts_from}
 use Rattle.partitioner.proofs.cuts.cut.Goals as goal
 

@@ -1,4 +1,4 @@
-use Rattle.std.proofs.Common.{◌≡◌, arith, rules, false, get_or, ◌++◌, ◌∷◌, []}
+use Rattle.std.proofs.Common.{arith, false, get_or}
 use Rattle.std.proofs.lemmas.Grind.{common_steps}
 use Rattle.partitioner.proofs.Ranges.{found_yes, found_no}
 use Rattle.partitioner.proofs.marks.marked_inside.Goals as goal

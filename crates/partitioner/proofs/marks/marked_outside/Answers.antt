@@ -1,4 +1,4 @@
-use Rattle.std.proofs.Common.{◌≡◌, arith, rules, false, get_or, ◌++◌, ◌∷◌, []}
+use Rattle.std.proofs.Common.{arith, false, get_or}
 use Rattle.std.specs.Prelude.{not, ◌&&◌}
 use Rattle.std.proofs.lemmas.Grind.{common_steps}
 use Rattle.px_base.specs.Parts.{is_within}

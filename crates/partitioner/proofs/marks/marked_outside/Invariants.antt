@@ -1,4 +1,4 @@
-use Rattle.std.proofs.Common.{◌≡◌, ℕ, false, get_or}
+use Rattle.std.proofs.Common.{◌≡◌, false, get_or}
 use Rattle.std.specs.Prelude.{not, ◌&&◌, filter}
 use Rattle.px_base.specs.Values.{positions_below}
 use Rattle.px_base.specs.Parts.{is_within}

@@ -2,7 +2,6 @@ use Rattle.partitioner.proofs.Fitting.{made, part_fits, part_holds, fewer_reads}
 use Rattle.px_base.specs.Graphs.{HasWeights, read_count}
 use Rattle.px_base.specs.Values.{IsWeight}
 use Rattle.px_base.specs.Parts.{PartFits, part_of, low_of, high_of}
-use Rattle.px_base.specs.declared.graph.Part.{Part}
 use Rattle.std.proofs.Common.{◌≤◌}
 use Rattle.std.specs.Prelude.{All}
 use Rattle.partitioner.proofs.parts.part.Goals as goal

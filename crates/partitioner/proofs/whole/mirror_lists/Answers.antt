@@ -1,4 +1,3 @@
-use Rattle.std.proofs.Common.{arith}
 use Rattle.partitioner.proofs.Routed.{mirror_lists_are}
 use Rattle.partitioner.proofs.whole.mirror_lists.Goals as goal
 

@@ -1,7 +1,5 @@
-use Rattle.std.proofs.Common.{◌≡◌, arith, rules, ap, ◌∙◌, sym, ◌++◌, ◌∷◌, []}
-use Rattle.std.specs.Prelude.{filter}
+use Rattle.std.proofs.Common.{arith, ◌∙◌, sym}
 use Rattle.std.proofs.lemmas.Grind.{common_steps}
-use Rattle.px_base.specs.Values.{positions_below}
 use Rattle.partitioner.specs.Bits.{has_bit}
 use Rattle.partitioner.proofs.Ranges.{gap, found_next}
 use Rattle.partitioner.proofs.words.bits_of.Goals as goal

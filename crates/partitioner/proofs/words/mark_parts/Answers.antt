@@ -1,5 +1,4 @@
-use Rattle.std.proofs.Common.{◌≡◌, arith, get_or}
-use Rattle.std.specs.Prelude.{◌&&◌, nat_lt}
+use Rattle.std.proofs.Common.{get_or}
 use Rattle.px_base.specs.Parts.{is_mirror}
 use Rattle.partitioner.specs.Bits.{has_bit}
 use Rattle.partitioner.proofs.BitWords.{no_part, part_more}

@@ -8,3 +8,4 @@ pub mod DistinctIds
 pub mod PlacedEnds
 pub mod Numbering
 pub mod Finished
+pub mod Marking

@@ -12,7 +12,7 @@ use Rattle.edge_reader.specs.declared.lines.ReadLines.{ReadLines}
 use Rattle.edge_reader.specs.declared.scan.Scan.{Scan}
 use Rattle.edge_reader.specs.Readings.{Says, IsBadLine}
 use Rattle.edge_reader.specs.Scans.{scanned, next_byte, line_start}
-use Rattle.edge_reader.specs.Lists.{AreRead, IsLineFault, RefusesEdge, Adds, Feeds, open_line}
+use Rattle.edge_reader.specs.Lists.{AreRead, IsLineFault, RefusesEdge, Adds, IsFed, open_line}
 use Rattle.edge_reader.proofs.EdgesWithin.{with_edges, one_more_line, fault_stays}
 use Rattle.edge_reader.proofs.Texts.{ended_newline, open_newline, ended_byte, open_byte, ended_begin, BeginsLines}
 
@@ -102,12 +102,12 @@ fault_longer w text more fault h =
 
 -- ---- one byte more
 
-pub byte_more : (text : List ℕ) (b : ℕ) (read : ReadLines) (scan : Scan) → b ≢ 10 → Feeds text read (Ok scan) → Feeds (text ++ b ∷ []) read (Ok (next_byte read.weighted scan b))
+pub byte_more : (text : List ℕ) (b : ℕ) (read : ReadLines) (scan : Scan) → b ≢ 10 → IsFed text read scan → IsFed (text ++ b ∷ []) read (next_byte read.weighted scan b)
 byte_more text b read scan other h =
     (subst (λ lines. AreRead lines read) (sym (ended_byte text b other)) h.0,
     ap (λ s. next_byte read.weighted s b) h.1 ∙ sym (fold-append (next_byte read.weighted) line_start (open_line text) (b ∷ [])) ∙ ap (scanned read.weighted) (sym (open_byte text b other)))
 
-pub newline_more : (text : List ℕ) (read : ReadLines) → AreRead (ended_lines text ++ open_line text ∷ []) read → Feeds (text ++ 10 ∷ []) read (Ok line_start)
+pub newline_more : (text : List ℕ) (read : ReadLines) → AreRead (ended_lines text ++ open_line text ∷ []) read → IsFed (text ++ 10 ∷ []) read line_start
 newline_more text read h = (subst (λ lines. AreRead lines read) (sym (ended_newline text)) h, ap (scanned read.weighted) (sym (open_newline text)))
 
 pub newline_fault : (w : Bool) (text : List ℕ) (fault : EdgeFault) → IsLineFault w (ended_lines text ++ open_line text ∷ []) fault → IsLineFault w (ended_lines (text ++ 10 ∷ [])) fault

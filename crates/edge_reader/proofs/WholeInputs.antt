@@ -14,7 +14,7 @@ use Rattle.edge_reader.specs.declared.fault.EdgeFault.TheVariants.{Missing, BadI
 use Rattle.edge_reader.specs.declared.lines.ReadLines.{ReadLines}
 use Rattle.edge_reader.specs.declared.scan.Scan.{Scan}
 use Rattle.edge_reader.specs.Readings.{Says, IsReadingOf}
-use Rattle.edge_reader.specs.Lists.{AreRead, IsLineFault, Adds, Feeds, open_line, newline_pieces, AreAllRead, ReadsAll}
+use Rattle.edge_reader.specs.Lists.{AreRead, IsLineFault, Adds, IsFed, FeedsOn, open_line, newline_pieces, AreAllRead, ReadsAll}
 use Rattle.edge_reader.proofs.EdgesWithin.{pieces_say}
 use Rattle.edge_reader.proofs.Texts.{ended_begin, ended_begin_all, BeginsLines, pieces_split}
 use Rattle.edge_reader.proofs.MoreLines.{outcome, says_stays}
@@ -89,7 +89,7 @@ pub record Progress (w : Bool) (left rest : Option (List ℕ)) (read : ReadLines
   pub size : length text ≡ total
   pub short : total ≤ input_limits.bytes
   pub lost : Consumes left rest text
-  pub fed : Feeds text read (Ok scan)
+  pub fed : IsFed text read scan
   pub same : read.weighted ≡ w
 
 -- a source that fails says nothing
@@ -111,14 +111,14 @@ progress_ends w left rest new read after scan total result p none end same adds 
     (subst (λ ls. Adds ls after result) (pieces_split p.text) adds)
 
 -- what a piece does to lines that were read so far
-abbrev pub FeedsOn : ReadLines → Scan → List ℕ → ReadLines → Result Scan EdgeFault → Type 0
-FeedsOn read scan piece after result = (text : List ℕ) → Feeds text read (Ok scan) → length (text ++ piece) < 2 ^ 32 → Feeds (text ++ piece) after result
+abbrev pub PieceFeeds : ReadLines → Scan → List ℕ → ReadLines → Result Scan EdgeFault → Type 0
+PieceFeeds read scan piece after result = (text : List ℕ) → IsFed text read scan → length (text ++ piece) < 2 ^ 32 → FeedsOn (text ++ piece) after result
 
 pub few_bytes : (text piece : List ℕ) (total : ℕ) → length text ≡ total → total + length piece ≤ input_limits.bytes → length (text ++ piece) < 2 ^ 32
 few_bytes text piece total size room = omega (arith, length-append text piece)
 
 pub progress_goes_on : (w : Bool) (left rest new : Option (List ℕ)) (read after : ReadLines) (scan next : Scan) (total : ℕ) (piece : List ℕ) → Progress w left rest read scan total → Consumes rest new piece →
-    total + length piece ≤ input_limits.bytes → after.weighted ≡ read.weighted → FeedsOn read scan piece after (Ok next) → Progress w left new after next (total + length piece)
+    total + length piece ≤ input_limits.bytes → after.weighted ≡ read.weighted → PieceFeeds read scan piece after (Ok next) → Progress w left new after next (total + length piece)
 progress_goes_on w left rest new read after scan next total piece p took room same feeds = record {
   text = p.text ++ piece;
   size = omega (arith, length-append p.text piece, p.size);
@@ -136,7 +136,7 @@ regroup : (a b c d : List ℕ) → (a ++ b) ++ (c ++ d) ≡ (a ++ (b ++ c)) ++ d
 regroup a b c d = simp append_assoc
 
 pub progress_faulty : (w : Bool) (left rest new : Option (List ℕ)) (read after : ReadLines) (scan : Scan) (total : ℕ) (piece more took : List ℕ) (fault : EdgeFault) → Progress w left rest read scan total → Consumes rest new took →
-    took ≡ piece ++ more → total + length piece ≤ input_limits.bytes → after.weighted ≡ read.weighted → FeedsOn read scan piece after (Err fault) → IsReadingOf w left new (Err fault)
+    took ≡ piece ++ more → total + length piece ≤ input_limits.bytes → after.weighted ≡ read.weighted → PieceFeeds read scan piece after (Err fault) → IsReadingOf w left new (Err fault)
 progress_faulty w left rest new read after scan total piece more took fault p lost is room same feeds =
     let has : IsLineFault after.weighted (ended_lines (p.text ++ piece)) fault = feeds p.text p.fed (few_bytes p.text piece total p.size room) in
     let short : length (p.text ++ piece) ≤ input_limits.bytes = omega (arith, length-append p.text piece, p.size) in
@@ -145,7 +145,7 @@ progress_faulty w left rest new read after scan total piece more took fault p lo
     (λ others. subst (λ l. Says (Err fault) (input_of input_limits w l)) (regroup p.text piece more others) (early w (p.text ++ piece) (more ++ others) fault short own))
 
 pub progress_long : (w : Bool) (left rest new : Option (List ℕ)) (read after : ReadLines) (scan next : Scan) (total : ℕ) (piece more took : List ℕ) → Progress w left rest read scan total → Consumes rest new took →
-    took ≡ piece ++ more → 0 < length more → total + length piece ≡ input_limits.bytes → after.weighted ≡ read.weighted → FeedsOn read scan piece after (Ok next) → IsReadingOf w left new (Err TooLong)
+    took ≡ piece ++ more → 0 < length more → total + length piece ≡ input_limits.bytes → after.weighted ≡ read.weighted → PieceFeeds read scan piece after (Ok next) → IsReadingOf w left new (Err TooLong)
 progress_long w left rest new read after scan next total piece more took p lost is some room same feeds =
     let front : List ℕ = p.text ++ piece in
     let full : length front ≡ input_limits.bytes = omega (arith, length-append p.text piece, p.size) in

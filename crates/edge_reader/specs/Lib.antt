@@ -1,4 +1,5 @@
 pub mod Lists
+pub mod Marks
 pub mod Places
 pub mod Readings
 pub mod Scans

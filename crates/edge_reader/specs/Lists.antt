@@ -53,10 +53,19 @@ RefusesEdge count TooManyVertices = ⊥
 RefusesEdge count TooLong = ⊥
 RefusesEdge count ReadFault = ⊥
 
--- the lines of this text are read as far as they ended, and the scan knows the open one; or a line that ended has a fault
-abbrev pub Feeds : List ℕ → ReadLines → Result Scan EdgeFault → Type 0
-Feeds text read (Ok scan) = AreRead (ended_lines text) read × (scan ≡ scanned read.weighted (open_line text))
-Feeds text read (Err fault) = IsLineFault read.weighted (ended_lines text) fault
+-- the lines of this text are read as far as they ended, and the scan knows the open one
+abbrev pub IsFed : List ℕ → ReadLines → Scan → Type 0
+IsFed text read scan = AreRead (ended_lines text) read × (scan ≡ scanned read.weighted (open_line text))
+
+-- that, or a line that ended has a fault
+abbrev pub Feeds : {T : Type 0} → List ℕ → ReadLines → Scan → Result T EdgeFault → Type 0
+Feeds text read scan (Ok done) = IsFed text read scan
+Feeds text read scan (Err fault) = IsLineFault read.weighted (ended_lines text) fault
+
+-- the same, where the scan is the answer
+abbrev pub FeedsOn : List ℕ → ReadLines → Result Scan EdgeFault → Type 0
+FeedsOn text read (Ok scan) = IsFed text read scan
+FeedsOn text read (Err fault) = IsLineFault read.weighted (ended_lines text) fault
 
 -- all lines of the input are read, the last one too
 pub record AreAllRead (weighted : Bool) (left rest : Option (List ℕ)) (read : ReadLines) : Type 0 where

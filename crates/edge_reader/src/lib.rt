@@ -4,6 +4,7 @@
 mod fault;
 mod finish;
 mod lines;
+mod marks;
 mod places;
 mod reader;
 mod scan;

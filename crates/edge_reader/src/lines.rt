@@ -1,8 +1,8 @@
 ghost use Rattle.std.specs.Prelude.{◌≡◌, ℕ, ◌+◌, ◌<◌, ◌^◌, List, [], ◌∷◌, ◌++◌, Ok, OnOk, IfErr, length};
 ghost use Rattle.px_base.specs.Lines.{line_of};
-ghost use Rattle.px_base.specs.Inputs.{ended_lines, input_limits};
-ghost use Rattle.edge_reader.specs.Scans.{scanned, line_said};
-ghost use Rattle.edge_reader.specs.Lists.{AreRead, Adds, RefusesEdge, Feeds, open_line};
+ghost use Rattle.px_base.specs.Inputs.{input_limits};
+ghost use Rattle.edge_reader.specs.Scans.{line_said};
+ghost use Rattle.edge_reader.specs.Lists.{AreRead, Adds, RefusesEdge, IsFed, Feeds, FeedsOn};
 
 use crate::EdgeFault;
 use crate::scan::{Said, Scan};
@@ -72,25 +72,27 @@ impl ReadLines {
         }
     }
 
-    fn one_byte(&mut self, scan: Scan, byte: u8) -> Result<Scan, EdgeFault>
+    fn one_byte(&mut self, scan: &mut Scan, byte: u8) -> Result<(), EdgeFault>
         ensures weighted { self.new.weighted ≡ self.old.weighted }
-        ensures fed { (text : List ℕ) → Feeds text self.old (Ok scan) → length text < 2 ^ 32 → Feeds (text ++ byte ∷ []) self.new result }
+        ensures fed { (text : List ℕ) → IsFed text self.old scan.old → length text < 2 ^ 32 → Feeds (text ++ byte ∷ []) self.new scan.new result }
     {
         if byte == b'\n' {
             self.end_line(scan.judged())?;
-            Ok(Scan::new())
+            *scan = Scan::new();
+            Ok(())
         } else {
-            Ok(scan.next_byte(self.weighted, byte))
+            scan.next_byte(self.weighted, byte);
+            Ok(())
         }
     }
 
     /// Reads on in a piece of the text. The scan knows the line that is open.
     pub fn feed(&mut self, mut scan: Scan, piece: &[u8]) -> Result<Scan, EdgeFault>
         ensures weighted { self.new.weighted ≡ self.old.weighted }
-        ensures fed { (text : List ℕ) → Feeds text self.old (Ok scan) → length (text ++ piece.now) < 2 ^ 32 → Feeds (text ++ piece.now) self.new result }
+        ensures fed { (text : List ℕ) → IsFed text self.old scan → length (text ++ piece.now) < 2 ^ 32 → FeedsOn (text ++ piece.now) self.new result }
     {
         for byte in piece {
-            scan = self.one_byte(scan, *byte)?;
+            self.one_byte(&mut scan, *byte)?;
         }
         Ok(scan)
     }

@@ -1,7 +1,8 @@
-ghost use Rattle.std.specs.Prelude.{◌≡◌, ℕ, ◌+◌, ◌<◌, ◌≤◌, ◌^◌, OnOk, IfOk, length, slice_index};
+ghost use Rattle.std.specs.Prelude.{◌≡◌, ℕ, ◌+◌, ◌<◌, ◌≤◌, ◌^◌, All, OnOk, IfOk, length, slice_index};
 ghost use Rattle.px_base.specs.Values.{by_position};
 ghost use Rattle.edge_reader.specs.Places.{ArePlaced, AreTags, AreSorted, tag_at, with_id};
 
+use crate::marks::place_by_marks;
 use px_base::Memory;
 use std::alloc::Global;
 
@@ -12,8 +13,7 @@ const TAG: u64 = 1 << 32;
 #[tactic(auto, using(px_base::proofs::Positions::by_position_more))]
 fn tagged(alloc: Global, ends: &[u32]) -> Result<Vec<u64>, Memory>
     requires { length ends.now ≤ 2 ^ 25 }
-    ensures tags { IfOk result (λ tags. tags.items ≡ by_position (length ends.now) (tag_at ends.now)) }
-    ensures small { (k : ℕ) → slice_index ends.now k < 2 ^ 32 }
+    ensures { IfOk result (λ tags. tags.items ≡ by_position (length ends.now) (tag_at ends.now)) }
 {
     let mut tags = Vec::with_capacity(alloc, ends.len())?;
     for (number, end) in ends.iter().enumerate() {
@@ -49,13 +49,39 @@ fn number_tags(alloc: Global, tags: &[u64], ends: &mut [u32]) -> Result<Vec<u64>
     Ok(ids)
 }
 
-/// The rising list of all ids, where each end gives way to the position of its id.
+/// The rising list of all ids, where each end gives way to the position of its id, by sorting all ends.
+fn place_by_tags(alloc: Global, ends: &mut [u32]) -> Result<Vec<u64>, Memory>
+    requires { length ends.old ≤ 2 ^ 25 }
+    ensures { IfOk result (λ ids. ArePlaced ends.old ends.new ids.items) }
+{
+    let mut tags = tagged(alloc, ends)?;
+    tags.sort_unstable();
+    number_tags(alloc, tags.as_slice(), ends)
+}
+
+/// The greatest of the ends, or 0 where there are none.
+fn greatest(ends: &[u32]) -> u32
+    ensures greatest { All (λ end. end ≤ result) ends.now }
+    ensures small { (k : ℕ) → slice_index ends.now k < 2 ^ 32 }
+{
+    let mut top = 0;
+    for end in ends {
+        top = top.max(*end);
+    }
+    top
+}
+
+/// The rising list of all ids, where each end gives way to the position of its id. A table serves where it is no longer
+/// than twice the ends and a million more.
 pub fn place_ends(alloc: Global, ends: &mut [u32]) -> Result<Vec<u64>, Memory>
     requires { length ends.old ≤ 2 ^ 25 }
     ensures placed { IfOk result (λ ids. ArePlaced ends.old ends.new ids.items) }
     ensures small { (k : ℕ) → slice_index ends.old k < 2 ^ 32 }
 {
-    let mut tags = tagged(alloc, ends)?;
-    tags.sort_unstable();
-    number_tags(alloc, tags.as_slice(), ends)
+    let size = greatest(ends) as usize + 1;
+    if size <= 2 * ends.len() + (1 << 20) {
+        place_by_marks(alloc, ends, size)
+    } else {
+        place_by_tags(alloc, ends)
+    }
 }

@@ -91,83 +91,65 @@ impl Scan {
         }
     }
 
-    fn in_source(self, number: u32, byte: u8) -> Scan
-        ensures { result ≡ in_source self number byte }
+    fn in_source(&mut self, number: u32, byte: u8)
+        ensures { self.new ≡ in_source self.old number byte }
     {
         match with_digit(number, byte) {
-            Some(source) => Scan {
-                stage: Stage::Source,
-                source,
-                ..self
-            },
-            None => Scan {
-                stage: Stage::WrongId,
-                ..self
-            },
+            Some(source) => {
+                self.stage = Stage::Source;
+                self.source = source;
+            }
+            None => self.stage = Stage::WrongId,
         }
     }
 
-    fn in_target(self, number: u32, byte: u8) -> Scan
-        ensures { result ≡ in_target self number byte }
+    fn in_target(&mut self, number: u32, byte: u8)
+        ensures { self.new ≡ in_target self.old number byte }
     {
         match with_digit(number, byte) {
-            Some(target) => Scan {
-                stage: Stage::Target,
-                target,
-                ..self
-            },
-            None => Scan {
-                stage: Stage::WrongId,
-                ..self
-            },
+            Some(target) => {
+                self.stage = Stage::Target;
+                self.target = target;
+            }
+            None => self.stage = Stage::WrongId,
         }
     }
 
-    fn in_weight(self, number: u32, byte: u8) -> Scan
-        ensures { result ≡ in_weight self number byte }
+    fn in_weight(&mut self, number: u32, byte: u8)
+        ensures { self.new ≡ in_weight self.old number byte }
     {
         match with_digit(number, byte) {
-            Some(weight) => Scan {
-                stage: Stage::Weight,
-                weight,
-                ..self
-            },
-            None => Scan {
-                stage: Stage::WrongWeight,
-                ..self
-            },
+            Some(weight) => {
+                self.stage = Stage::Weight;
+                self.weight = weight;
+            }
+            None => self.stage = Stage::WrongWeight,
         }
     }
 
-    fn in_third(self, weighted: bool, byte: u8) -> Scan
-        ensures { result ≡ in_third weighted self byte }
+    fn in_third(&mut self, weighted: bool, byte: u8)
+        ensures { self.new ≡ in_third weighted self.old byte }
     {
         if weighted {
-            self.in_weight(0, byte)
+            self.in_weight(0, byte);
         } else {
-            Scan {
-                stage: Stage::Rest,
-                weight: 1,
-                ..self
-            }
+            self.stage = Stage::Rest;
+            self.weight = 1;
         }
     }
 
-    fn at_start(self, byte: u8) -> Scan
-        ensures { result ≡ at_start self byte }
+    fn at_start(&mut self, byte: u8)
+        ensures { self.new ≡ at_start self.old byte }
     {
         if byte == b'#' || byte == b'%' {
-            Scan {
-                stage: Stage::Comment,
-                ..self
-            }
+            self.stage = Stage::Comment;
         } else {
-            self.in_source(0, byte)
+            self.in_source(0, byte);
         }
     }
 
-    fn in_field(self, weighted: bool, byte: u8) -> Scan
-        ensures { result ≡ in_field weighted self.stage self byte }
+    fn in_field(&mut self, weighted: bool, byte: u8)
+        ensures { self.new ≡ in_field weighted self.old.stage self.old byte }
     {
         match self.stage {
             Stage::Start => self.at_start(byte),
@@ -177,46 +159,38 @@ impl Scan {
             Stage::Target => self.in_target(self.target, byte),
             Stage::AfterTarget => self.in_third(weighted, byte),
             Stage::Weight => self.in_weight(self.weight, byte),
-            Stage::Comment | Stage::Rest | Stage::WrongId | Stage::WrongWeight => self,
+            Stage::Comment | Stage::Rest | Stage::WrongId | Stage::WrongWeight => {}
         }
     }
 
-    fn next_in_line(self, weighted: bool, byte: u8) -> Scan
-        ensures { result ≡ next_in_line weighted self byte }
+    fn next_in_line(&mut self, weighted: bool, byte: u8)
+        ensures { self.new ≡ next_in_line weighted self.old byte }
     {
         if is_blank(byte) {
-            Scan {
-                stage: after_blank(self.stage),
-                ..self
-            }
+            self.stage = after_blank(self.stage);
         } else {
-            self.in_field(weighted, byte)
+            self.in_field(weighted, byte);
         }
     }
 
-    fn let_go(self, weighted: bool) -> Scan
-        ensures { result ≡ let_go weighted self }
+    fn let_go(&mut self, weighted: bool)
+        ensures { self.new ≡ let_go weighted self.old }
     {
         if self.held {
-            let free = Scan {
-                held: false,
-                ..self
-            };
-            free.next_in_line(weighted, b'\r')
-        } else {
-            self
+            self.held = false;
+            self.next_in_line(weighted, b'\r');
         }
     }
 
-    /// After one more byte of the line.
-    pub fn next_byte(self, weighted: bool, byte: u8) -> Scan
-        ensures { result ≡ next_byte weighted self byte }
+    /// Takes one more byte of the line.
+    pub fn next_byte(&mut self, weighted: bool, byte: u8)
+        ensures { self.new ≡ next_byte weighted self.old byte }
     {
-        let free = self.let_go(weighted);
+        self.let_go(weighted);
         if byte == b'\r' {
-            Scan { held: true, ..free }
+            self.held = true;
         } else {
-            free.next_in_line(weighted, byte)
+            self.next_in_line(weighted, byte);
         }
     }
 

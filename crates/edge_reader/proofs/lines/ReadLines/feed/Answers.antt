@@ -1,7 +1,7 @@
-use Rattle.std.proofs.Common.{◌≡◌, ℕ, ◌+◌, ◌<◌, ◌≤◌, ◌^◌, List, ◌++◌, ◌∷◌, [], Ok, length, take, append-nil, arith, sym, ap, ◌∙◌, subst, refl}
+use Rattle.std.proofs.Common.{◌≡◌, ℕ, ◌+◌, ◌<◌, ◌≤◌, ◌^◌, List, ◌++◌, length, take, append-nil, arith, sym, ap, ◌∙◌, subst, refl}
 use Rattle.std.proofs.lemmas.List.{take_all}
 use Rattle.std.proofs.lemmas.Result.{err_from_is_err_and}
-use Rattle.edge_reader.specs.Lists.{Feeds}
+use Rattle.edge_reader.specs.Lists.{IsFed}
 use Rattle.edge_reader.proofs.MoreLines.{one_taken, taken_small, fault_of_piece}
 use Rattle.edge_reader.proofs.lines.ReadLines.feed.Goals as goal
 
@@ -14,22 +14,22 @@ loop-byte-preserved c = record {
   fed = λ text h small.
       let below : c.loop-byte.byte-index < length c.args.piece.now = omega arith in
       let few : length (text ++ take c.loop-byte.byte-index c.args.piece.now) < 2 ^ 32 = omega (arith, taken_small text c.args.piece.now c.loop-byte.byte-index) in
-      subst (λ l. Feeds l c.one_byte.new.self (Ok c.in_ok-scan.scan)) (sym (one_taken text c.args.piece.now c.loop-byte.byte-index below))
-      (c.in_ok-scan.ensures.fed (text ++ take c.loop-byte.byte-index c.args.piece.now) (c.loop-byte.invariant.fed text h small) few);
+      subst (λ l. IsFed l c.one_byte.new.self c.one_byte.new.scan) (sym (one_taken text c.args.piece.now c.loop-byte.byte-index below))
+      (c.in_ok-one_byte.ensures.fed (text ++ take c.loop-byte.byte-index c.args.piece.now) (c.loop-byte.invariant.fed text h small) few);
 }
 
-pub returns-in_err-scan-clause-weighted : goal.returns-in_err-scan-clause-weighted
-returns-in_err-scan-clause-weighted c = c.one_byte.ensures.weighted ∙ c.loop-byte.invariant.weighted
+pub returns-in_err-one_byte-clause-weighted : goal.returns-in_err-one_byte-clause-weighted
+returns-in_err-one_byte-clause-weighted c = c.one_byte.ensures.weighted ∙ c.loop-byte.invariant.weighted
 
-pub returns-in_err-scan-clause-fed : goal.returns-in_err-scan-clause-fed
-returns-in_err-scan-clause-fed c = λ text h small.
+pub returns-in_err-one_byte-clause-fed : goal.returns-in_err-one_byte-clause-fed
+returns-in_err-one_byte-clause-fed c = λ text h small.
     let below : c.loop-byte.byte-index < length c.args.piece.now = omega arith in
     let few : length (text ++ take c.loop-byte.byte-index c.args.piece.now) < 2 ^ 32 = omega (arith, taken_small text c.args.piece.now c.loop-byte.byte-index) in
     let p = err_from_is_err_and c.from_residual.result c.from_residual.ensures.1 in
-    rw (p.1, p.2) (fault_of_piece c.one_byte.new.self.weighted text c.args.piece.now c.loop-byte.byte-index c.in_err-scan.field-0.0 below
-    (c.in_err-scan.ensures.fed (text ++ take c.loop-byte.byte-index c.args.piece.now) (c.loop-byte.invariant.fed text h small) few))
+    rw (p.1, p.2) (fault_of_piece c.one_byte.new.self.weighted text c.args.piece.now c.loop-byte.byte-index c.in_err-one_byte.field-0.0 below
+    (c.in_err-one_byte.ensures.fed (text ++ take c.loop-byte.byte-index c.args.piece.now) (c.loop-byte.invariant.fed text h small) few))
 
 pub returns-clause-fed : goal.returns-clause-fed
 returns-clause-fed c = λ text h small.
     let all : take c.loop-byte.byte-index c.args.piece.now ≡ c.args.piece.now = take_all c.loop-byte.byte-index c.args.piece.now (omega arith) in
-    subst (λ l. Feeds (text ++ l) c.loop-byte.self (Ok c.loop-byte.scan)) all (c.loop-byte.invariant.fed text h small)
+    subst (λ l. IsFed (text ++ l) c.loop-byte.self c.loop-byte.scan) all (c.loop-byte.invariant.fed text h small)

@@ -23,4 +23,4 @@ returns-in_ok-end_line-clause-fed c = λ text h small.
     rw (c.new.ensures, c.if-byte-eq10.true) (newline_more text c.end_line.new.self (c.in_ok-end_line.ensures.adds (ended_lines text) (open_line text) h.0 is few))
 
 pub returns-else-byte-eq10-clause-fed : goal.returns-else-byte-eq10-clause-fed
-returns-else-byte-eq10-clause-fed c = λ text h small. rw c.next_byte.ensures (byte_more text c.args.byte c.args.self.now c.args.scan c.if-byte-eq10.false h)
+returns-else-byte-eq10-clause-fed c = λ text h small. rw c.next_byte.ensures (byte_more text c.args.byte c.args.self.now c.args.scan.now c.if-byte-eq10.false h)

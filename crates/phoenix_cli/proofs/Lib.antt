@@ -4,4 +4,7 @@ pub mod Halves
 pub mod GrowingText
 pub mod Ranges
 pub mod Renewals
+pub mod Solving
+pub mod Sources
+pub mod Stepping
 pub mod InStep

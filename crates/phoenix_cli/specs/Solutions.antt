@@ -1,5 +1,6 @@
 -- What reading and solving an input comes to, before anything is written.
-use Rattle.std.specs.Prelude.{◌≡◌, ℕ, IsTrue, IsOk, IfSome, List, Option, Result, Ok, Err}
+use Rattle.std.specs.Prelude.{◌≡◌, ℕ, IsTrue, IsOk, IfSome, List, Option, Result, Ok, Err, Vec}
+use Rattle.std.specs.declared.alloc.Global.{Global}
 use Rattle.std.specs.Io.KnownBytes.{IsAtEnd}
 use Rattle.px_base.specs.declared.program.Program.{Program}
 use Rattle.phoenix_cli.specs.declared.stop.Stop.{Stop}
@@ -21,6 +22,6 @@ pub record IsSolution (program : Program) (sources : List ℕ) (left rest : Opti
   pub ended : IsOk result → IsAtEnd rest
 
 -- the answer with the bytes of its text
-abbrev pub with_text : Result (Vec ℕ) Stop → Result (List ℕ) Stop
+abbrev pub with_text : Result (Vec ℕ Global) Stop → Result (List ℕ) Stop
 with_text (Ok text) = Ok text.items
 with_text (Err stop) = Err stop

@@ -63,7 +63,8 @@ fn stepped<R: Threads + Sync>(
         }) => Ok(Sent { changed, updates }),
         Ok(Answer::Reported { .. }) => unreachable!(),
         Err(StepFault::Memory) => Err(Memory),
-        Err(_) => unreachable!(),
+        Err(StepFault::WrongEpoch { .. }) => unreachable!(),
+        Err(StepFault::Foreign { .. }) => unreachable!(),
     }
 }
 

@@ -35,18 +35,27 @@ fn run_bfs<R: Threads + Sync, S: Source, K: Sink>(
     }
 }
 
-/// The words of `run`, and then the run.
+/// Reads the words, and then runs.
 fn run<R: Threads + Sync, S: Source, K: Sink>(
     rt: &R,
     alloc: Global,
     words: &Words,
     source: &mut S,
     sink: &mut K,
-) -> Result<(), Stop> {
-    let Some(id) = bfs_source(words) else {
-        return Err(Stop::BadWords);
-    };
-    run_bfs(rt, alloc, id, source, sink)
+) -> Result<(), Stop>
+    ensures known { IsTrue (is_run_status (outcome_status result)) }
+    ensures words { outcome_status result ≡ 2 → bfs_source words.now ≡ None }
+    ensures no_words { bfs_source words.now ≡ None → outcome_status result ≡ 2 }
+    ensures no_text { bfs_source words.now ≡ None → Keeps (K.written sink.old) (K.written sink.new) }
+    ensures run { IfSome (bfs_source words.now) (λ id.
+        IsRunOf bfs (id ∷ []) (outcome_status result) (S.left source.old) (S.left source.new) (K.written sink.old) (K.written sink.new)) }
+    ensures read_fault { outcome_status result ≡ 6 → Rose (S.faults source.old) (S.faults source.new) }
+    ensures write_fault { outcome_status result ≡ 7 → Rose (K.faults sink.old) (K.faults sink.new) }
+{
+    match bfs_source(words) {
+        Some(id) => run_bfs(rt, alloc, id, source, sink),
+        None => Err(Stop::BadWords),
+    }
 }
 
 /// `run bfs SOURCE` over the words. The bytes of the source are the edge list; the sink gets the answer, one line for each

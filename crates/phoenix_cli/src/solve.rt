@@ -1,4 +1,4 @@
-ghost use Rattle.std.specs.Prelude.{◌≡◌, ◌≤◌, ◌<◌, ◌∷◌, [], false, true, Err, IfOk, IfSome, IfNone, length};
+ghost use Rattle.std.specs.Prelude.{◌≡◌, ◌≤◌, ◌<◌, ◌^◌, ◌∷◌, [], false, true, Err, IfOk, IfSome, IfNone, length, if◌then◌else◌};
 ghost use Rattle.px_base.specs.AnswerTexts.{IsAnswerOn};
 ghost use Rattle.px_base.specs.Lines.{EdgeListFits};
 ghost use Rattle.px_base.specs.Programs.{bfs};
@@ -11,9 +11,9 @@ use crate::rounds::solved_in_rounds;
 use crate::stop::Stop;
 use crate::text::answer_text;
 use edge_reader::{EdgeFault, read_edges};
-use graph_forms::build_given;
+use graph_forms::build;
 use partitioner::cut;
-use px_base::{EdgeList, Id, Memory, Pos, TOP, Value};
+use px_base::{EdgeList, Form, Id, Memory, Pos, Reads, TOP, Value};
 use px_io::Source;
 use std::alloc::Global;
 use std::thread::Threads;
@@ -22,6 +22,7 @@ use std::thread::Threads;
 const WORKERS: u32 = 2;
 
 /// The position of the vertex with this id, where there is one.
+#[tactic(auto, using(crate::proofs::Sources::place_is, crate::proofs::Sources::not_listed))]
 fn position_of(ids: &[Id], id: Id) -> Option<Pos>
     requires { length ids.now ≤ 2 ^ 22 }
     ensures place { IfSome result (λ at. at ≡ place_of ids.now id) }
@@ -37,7 +38,15 @@ fn position_of(ids: &[Id], id: Id) -> Option<Pos>
     None
 }
 
-/// The start values of `bfs`: 0 at the source, and the greatest value elsewhere.
+/// The start value of the vertex at a position: 0 at the source, and the greatest value elsewhere.
+fn start_value(at: Pos, source: Pos) -> Value
+    ensures { result ≡ (if is_listed (source ∷ []) at then 0 else TOP) }
+{
+    if at == source { 0 } else { TOP }
+}
+
+/// The start values of `bfs` from the source at this position.
+#[tactic(auto, using(px_base::proofs::Positions::by_position_more, crate::proofs::Sources::starts_fit))]
 fn start_values(alloc: Global, ids: &[Id], source: Pos) -> Result<Vec<Value>, Memory>
     requires { length ids.now ≤ 2 ^ 22 }
     ensures starts { IfOk result (λ starts. starts.items ≡ starts_of bfs.start ids.now (source ∷ [])) }
@@ -45,7 +54,7 @@ fn start_values(alloc: Global, ids: &[Id], source: Pos) -> Result<Vec<Value>, Me
 {
     let mut starts = Vec::with_capacity(alloc, ids.len())?;
     for at in 0..ids.len() as Pos {
-        starts.push(if at == source { 0 } else { TOP })?;
+        starts.push(start_value(at, source))?;
     }
     Ok(starts)
 }
@@ -61,7 +70,7 @@ fn text_on<R: Threads + Sync>(
     requires source { source < length list.now.ids }
     ensures { IfOk result (λ text. IsAnswerOn bfs (source ∷ []) list.now text.items) }
 {
-    let graph = build_given(alloc, list)?;
+    let graph = build(alloc, list, Form::Given, Reads::All)?;
     let starts = start_values(alloc, list.ids.as_slice(), source)?;
     let cuts = cut(alloc, graph.n, WORKERS)?;
     let values = solved_in_rounds(rt, alloc, &graph, starts.as_slice(), &cuts)?;
@@ -89,5 +98,8 @@ pub fn bfs_text<R: Threads + Sync, S: Source>(
     let Some(at) = position_of(list.ids.as_slice(), id) else {
         return Err(Stop::UnknownSource { id });
     };
-    Ok(text_on(rt, alloc, &list, at)?)
+    match text_on(rt, alloc, &list, at) {
+        Ok(text) => Ok(text),
+        Err(Memory) => Err(Stop::Memory),
+    }
 }

@@ -182,10 +182,15 @@ impl Scan {
         }
     }
 
-    /// Takes one more byte of the line.
+    /// Takes one more byte of the line. Most are digits, so these come first.
+    #[tactic(auto, using(crate::proofs::Digits::digit_is_next))]
     pub fn next_byte(&mut self, weighted: bool, byte: u8)
         ensures { self.new ≡ next_byte weighted self.old byte }
     {
+        if !self.held && byte.is_ascii_digit() {
+            self.in_field(weighted, byte);
+            return;
+        }
         self.let_go(weighted);
         if byte == b'\r' {
             self.held = true;

@@ -5,7 +5,7 @@ use Rattle.std.specs.Char.{is_ascii_digit}
 use Rattle.std.proofs.lemmas.Bool.Decides.{nat_tests}
 use Rattle.px_base.specs.Lines.{is_blank}
 use Rattle.edge_reader.specs.declared.scan.Scan.{Scan}
-use Rattle.edge_reader.specs.Scans.{in_field, next_in_line, next_byte, let_go, after_blank}
+use Rattle.edge_reader.specs.Scans.{in_field, next_byte}
 
 no_return : (b : ℕ) → is_ascii_digit b ≡ true → (b == 13) ≡ false
 no_return b h = grind (arith, nat_tests)

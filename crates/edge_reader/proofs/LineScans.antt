@@ -1,15 +1,15 @@
 -- What is known of a line at its end is what the line says.
-use Rattle.std.proofs.Common.{◌≡◌, ℕ, suc, ◌+◌, ◌-◌, Bool, true, false, not, cond, List, [], ◌∷◌, length, take, refl, sym, ap, ◌∙◌, arith}
+use Rattle.std.proofs.Common.{◌≡◌, ℕ, suc, ◌-◌, Bool, true, false, not, cond, List, [], ◌∷◌, length, take, refl, sym, ap, ◌∙◌, arith}
 use Rattle.std.specs.Prelude.{Option, Some, None, ◌==◌, ◌||◌, if◌then◌else◌, filter, slice_index}
 use Rattle.std.specs.List.{fold}
 use Rattle.std.proofs.lemmas.Bool.Decides.{nat_tests}
 use Rattle.std.proofs.lemmas.Bool.{ne_eqb, eqb-true}
-use Rattle.px_base.specs.Lines.{Line, skipped, an_edge, faulty, missing, bad_id, bad_weight, is_blank, pieces_at, in_front, has_bytes, fields_of, small_number, weight_of, weighed_line, target_line, source_line, is_comment, without_return, line_of}
+use Rattle.px_base.specs.Lines.{Line, skipped, faulty, bad_id, is_blank, pieces_at, in_front, has_bytes, fields_of, small_number, weight_of, weighed_line, target_line, source_line, is_comment, without_return, line_of}
 use Rattle.edge_reader.specs.declared.scan.Scan.{Scan}
 use Rattle.edge_reader.specs.declared.scan.Stage.{Stage}
 use Rattle.edge_reader.specs.declared.scan.Stage.TheVariants.{Start, Comment, Indent, Source, AfterSource, Target, AfterTarget, Weight, Rest, WrongId, WrongWeight}
-use Rattle.edge_reader.specs.Scans.{with_digit, line_start, in_source, in_target, in_weight, in_third, at_start, after_blank, in_field, next_in_line, let_go, next_byte, scanned, judged_at, judged}
-use Rattle.edge_reader.proofs.SmallNumbers.{on_some, number_from, small_is}
+use Rattle.edge_reader.specs.Scans.{with_digit, line_start, in_source, in_target, in_weight, in_third, at_start, after_blank, in_field, next_in_line, next_byte, scanned, judged_at, judged}
+use Rattle.edge_reader.proofs.SmallNumbers.{number_from, small_is}
 
 -- ---- the pieces between separators
 

@@ -1,10 +1,10 @@
 -- One line more, and one byte more.
-use Rattle.std.proofs.Common.{◌≡◌, ℕ, zero, suc, ◌+◌, ◌-◌, ◌≤◌, ◌<◌, ◌^◌, Bool, true, false, cond, List, [], ◌∷◌, ◌++◌, length, map, take, drop, get_or, append_assoc, refl, sym, ap, ◌∙◌, subst, arith, append-nil, length-append}
+use Rattle.std.proofs.Common.{◌≡◌, ℕ, zero, suc, ◌+◌, ◌-◌, ◌≤◌, ◌<◌, Bool, List, [], ◌∷◌, ◌++◌, length, map, take, drop, get_or, append_assoc, refl, sym, ap, ◌∙◌, subst, arith, append-nil, length-append}
 use Rattle.std.specs.Prelude.{Result, Ok, Err, ◌≢◌, OnOk, IfErr}
 use Rattle.std.proofs.lemmas.List.{map-append, length-map, length-take, take_more, take-append-drop}
 use Rattle.std.proofs.lemmas.List.Concat.{flat_map-append}
 use Rattle.std.proofs.lemmas.List.Sums.{fold-append}
-use Rattle.px_base.specs.Lines.{IdEdge, Line, skipped, an_edge, faulty, LineFault, line_of, ends_of}
+use Rattle.px_base.specs.Lines.{IdEdge, skipped, an_edge, faulty, LineFault, line_of, ends_of}
 use Rattle.px_base.specs.Inputs.{InputFault, bad_line, too_many_edges, line_then, edges_within, ended_lines, input_limits}
 use Rattle.edge_reader.specs.declared.fault.EdgeFault.{EdgeFault}
 use Rattle.edge_reader.specs.declared.fault.EdgeFault.TheVariants.{Missing, BadId, BadWeight, TooManyVertices, TooManyEdges, TooLong, ReadFault, Memory}
@@ -103,9 +103,10 @@ fault_longer w text more fault h =
 -- ---- one byte more
 
 pub byte_more : (text : List ℕ) (b : ℕ) (read : ReadLines) (scan : Scan) → b ≢ 10 → IsFed text read scan → IsFed (text ++ b ∷ []) read (next_byte read.weighted scan b)
-byte_more text b read scan other h =
-    (subst (λ lines. AreRead lines read) (sym (ended_byte text b other)) h.0,
-    ap (λ s. next_byte read.weighted s b) h.1 ∙ sym (fold-append (next_byte read.weighted) line_start (open_line text) (b ∷ [])) ∙ ap (scanned read.weighted) (sym (open_byte text b other)))
+byte_more text b read scan other h = (
+  subst (λ lines. AreRead lines read) (sym (ended_byte text b other)) h.0,
+  ap (λ s. next_byte read.weighted s b) h.1 ∙ sym (fold-append (next_byte read.weighted) line_start (open_line text) (b ∷ [])) ∙ ap (scanned read.weighted) (sym (open_byte text b other)),
+)
 
 pub newline_more : (text : List ℕ) (read : ReadLines) → AreRead (ended_lines text ++ open_line text ∷ []) read → IsFed (text ++ 10 ∷ []) read line_start
 newline_more text read h = (subst (λ lines. AreRead lines read) (sym (ended_newline text)) h, ap (scanned read.weighted) (sym (open_newline text)))

@@ -1,4 +1,4 @@
-use Rattle.std.proofs.Common.{◌≡◌, ℕ, ◌+◌, ◌<◌, ◌^◌, List, ◌++◌, length, take}
+use Rattle.std.proofs.Common.{◌≡◌, ℕ, ◌<◌, ◌^◌, List, ◌++◌, length, take}
 use Rattle.edge_reader.specs.Lists.{IsFed}
 use Rattle.edge_reader.proofs.lines.ReadLines.feed.Given as goal
 

@@ -9,7 +9,7 @@ use Rattle.px_base.specs.Lines.{is_blank}
 use Rattle.edge_reader.specs.declared.scan.Scan.{Scan}
 use Rattle.edge_reader.specs.declared.scan.Stage.{Stage}
 use Rattle.edge_reader.specs.declared.scan.Stage.TheVariants.{Source, Target, Weight}
-use Rattle.edge_reader.specs.Scans.{with_digit, with_digits, on_some, in_field, in_source, in_target, in_weight, next_in_line, next_byte, let_go, after_blank, TakesDigits, bytes_between}
+use Rattle.edge_reader.specs.Scans.{with_digit, with_digits, on_some, in_field, in_source, in_target, in_weight, next_byte, TakesDigits, bytes_between}
 
 no_return : (b : ℕ) → is_ascii_digit b ≡ true → (b == 13) ≡ false
 no_return b h = grind (arith, nat_tests)

@@ -11,7 +11,7 @@ use Rattle.px_base.specs.Lines.{small_number}
 use Rattle.px_base.specs.Text.{digits_end, number_of}
 use Rattle.px_base.specs.declared.number.NumberFault.{NumberFault}
 use Rattle.px_base.specs.declared.number.NumberFault.TheVariants.{Empty, NotDigit, TooGreat}
-use Rattle.edge_reader.specs.Scans.{with_digit, with_digits, on_some}
+use Rattle.edge_reader.specs.Scans.{with_digits}
 
 abbrev all_digits : List ℕ → Bool
 all_digits [] = true

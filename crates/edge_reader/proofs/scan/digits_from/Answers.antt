@@ -1,5 +1,5 @@
-use Rattle.std.proofs.Common.{arith, ◌≡◌, sym, ◌∙◌}
-use Rattle.edge_reader.proofs.Digits.{run_none, run_more}
+use Rattle.std.proofs.Common.{arith, sym, ◌∙◌}
+use Rattle.edge_reader.proofs.Digits.{run_more}
 use Rattle.edge_reader.proofs.scan.digits_from.Goals as goal
 
 pub loop-end-preserved : goal.loop-end-preserved

@@ -1,6 +1,5 @@
-use Rattle.std.proofs.Common.{arith, ◌≡◌, ◌<◌, ◌≤◌, ◌+◌, ◌^◌, ℕ, List, ◌++◌, length, take, sym, subst}
+use Rattle.std.proofs.Common.{arith, ◌<◌, ◌≤◌, ◌^◌, ℕ, ◌++◌, length, take, sym, subst}
 use Rattle.std.proofs.lemmas.Result.{err_from_is_err_and}
-use Rattle.edge_reader.specs.declared.scan.Scan.{Scan}
 use Rattle.edge_reader.specs.Lists.{IsFed}
 use Rattle.edge_reader.proofs.MoreLines.{digits_more, one_taken, taken_small, fault_of_piece}
 use Rattle.edge_reader.proofs.lines.ReadLines.digits_and_byte.Goals as goal

@@ -1,4 +1,4 @@
-use Rattle.std.proofs.Common.{arith, ◌≡◌, ℕ, ◌++◌, List, length, take, append-nil, subst, ◌∙◌, refl}
+use Rattle.std.proofs.Common.{arith, ◌≡◌, ◌++◌, take, append-nil, subst, ◌∙◌, refl}
 use Rattle.std.proofs.lemmas.List.{take_all}
 use Rattle.std.proofs.lemmas.Result.{err_from_is_err_and}
 use Rattle.edge_reader.specs.Lists.{IsFed}

@@ -1,4 +1,3 @@
-use Rattle.std.proofs.Common.{◌≡◌, false}
 use Rattle.edge_reader.specs.Scans.{bytes_between}
 use Rattle.edge_reader.proofs.Digits.{source_takes, target_takes, weight_takes}
 use Rattle.edge_reader.proofs.scan.Scan.take_digits.Goals as goal

@@ -1,9 +1,9 @@
 -- The edges of some lines and then of more.
-use Rattle.std.proofs.Common.{◌≡◌, ℕ, zero, suc, ◌+◌, ◌-◌, ◌≤◌, ◌<◌, Bool, true, false, cond, List, [], ◌∷◌, ◌++◌, length, refl, sym, ap, ◌∙◌, arith, append-nil, append_assoc}
-use Rattle.std.specs.Prelude.{Result, Ok, Err, not, ◌==◌}
+use Rattle.std.proofs.Common.{◌≡◌, ℕ, zero, suc, ◌+◌, ◌-◌, Bool, false, cond, List, [], ◌∷◌, ◌++◌, length, refl, sym, ap, ◌∙◌, arith, append-nil}
+use Rattle.std.specs.Prelude.{Result, Ok, Err, ◌==◌}
 use Rattle.std.proofs.lemmas.Bool.{ne_eqb}
-use Rattle.px_base.specs.Lines.{IdEdge, Line, skipped, an_edge, faulty, LineFault, line_of, has_bytes, lines_of}
-use Rattle.px_base.specs.Inputs.{InputFault, bad_line, too_many_edges, with_edge, room_after, line_then, edges_within, ended_lines}
+use Rattle.px_base.specs.Lines.{IdEdge, Line, skipped, an_edge, faulty, line_of, has_bytes, lines_of}
+use Rattle.px_base.specs.Inputs.{InputFault, with_edge, room_after, line_then, edges_within, ended_lines}
 use Rattle.edge_reader.specs.Lists.{newline_pieces, open_line}
 use Rattle.edge_reader.proofs.Texts.{lines_split, pieces_split}
 

@@ -1,6 +1,6 @@
 -- The edge list of all lines says what they say.
-use Rattle.std.proofs.Common.{◌≡◌, ℕ, ◌+◌, ◌*◌, ◌<◌, ◌≤◌, ◌^◌, List, [], ◌++◌, length, map, take, drop, append-nil, refl, sym, ap, ◌∙◌, subst, cond, arith, get_or}
-use Rattle.std.specs.Prelude.{Ok, Err, All, Contains, ◌↔◌}
+use Rattle.std.proofs.Common.{◌≡◌, ℕ, ◌+◌, ◌*◌, ◌<◌, ◌≤◌, ◌^◌, List, [], ◌++◌, length, map, take, drop, append-nil, refl, sym, ap, ◌∙◌, subst, arith, get_or}
+use Rattle.std.specs.Prelude.{Ok, Err, Contains, ◌↔◌}
 use Rattle.std.proofs.lemmas.Bool.{le-ltb, lt-ltb}
 use Rattle.std.proofs.lemmas.List.{get_or-map, length-map, get_or_default, drop_all, take_all}
 use Rattle.px_base.specs.declared.graph.Edge.{Edge}
@@ -26,12 +26,15 @@ at_end edges few = rw (le-ltb input_limits.vertices (distinct_count (ends_of edg
 
 pub says_list : (edges : List IdEdge) (ends places weights ids : List ℕ) → ArePlaced ends places ids → ends ≡ ends_of edges → weights ≡ map (λ e. e.weight) edges → length ids ≤ input_limits.vertices →
     Says (Ok (list_of ids places weights)) (result_at_end input_limits.vertices (Ok edges))
-says_list edges ends places weights ids a is heavy few =
-    (edges, at_end edges (omega (arith, count_is edges ends places ids a is)), record {
-      rising = a.rising;
-      members = λ id. subst (λ l. Contains ids id ↔ Contains l id) is (a.members id);
-      placed = edges_placed edges places weights ids (a.placed ∙ ap (map (place_of ids)) is) heavy;
-    })
+says_list edges ends places weights ids a is heavy few = (
+  edges,
+  at_end edges (omega (arith, count_is edges ends places ids a is)),
+  record {
+    rising = a.rising;
+    members = λ id. subst (λ l. Contains ids id ↔ Contains l id) is (a.members id);
+    placed = edges_placed edges places weights ids (a.placed ∙ ap (map (place_of ids)) is) heavy;
+  },
+)
 
 pub says_many : (edges : List IdEdge) (ends places ids : List ℕ) → ArePlaced ends places ids → ends ≡ ends_of edges → input_limits.vertices < length ids → result_at_end input_limits.vertices (Ok edges) ≡ Err too_many_vertices
 says_many edges ends places ids a is many = rw (lt-ltb input_limits.vertices (distinct_count (ends_of edges)) (omega (arith, count_is edges ends places ids a is))) refl

@@ -1,3 +1,4 @@
+pub mod Digits
 pub mod EdgesWithin
 pub mod LineScans
 pub mod MoreLines

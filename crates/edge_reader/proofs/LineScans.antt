@@ -1,15 +1,15 @@
 -- What is known of a line at its end is what the line says.
-use Rattle.std.proofs.Common.{◌≡◌, ℕ, suc, ◌+◌, ◌-◌, Bool, true, false, not, cond, List, [], ◌∷◌, length, take, refl, sym, ap, ◌∙◌, arith}
+use Rattle.std.proofs.Common.{◌≡◌, ℕ, suc, ◌-◌, Bool, true, false, not, cond, List, [], ◌∷◌, length, take, refl, sym, ap, ◌∙◌, arith}
 use Rattle.std.specs.Prelude.{Option, Some, None, ◌==◌, ◌||◌, if◌then◌else◌, filter, slice_index}
 use Rattle.std.specs.List.{fold}
 use Rattle.std.proofs.lemmas.Bool.Decides.{nat_tests}
 use Rattle.std.proofs.lemmas.Bool.{ne_eqb, eqb-true}
-use Rattle.px_base.specs.Lines.{Line, skipped, an_edge, faulty, missing, bad_id, bad_weight, is_blank, pieces_at, in_front, has_bytes, fields_of, small_number, weight_of, weighed_line, target_line, source_line, is_comment, without_return, line_of}
+use Rattle.px_base.specs.Lines.{Line, skipped, faulty, bad_id, is_blank, pieces_at, in_front, has_bytes, fields_of, small_number, weight_of, weighed_line, target_line, source_line, is_comment, without_return, line_of}
 use Rattle.edge_reader.specs.declared.scan.Scan.{Scan}
 use Rattle.edge_reader.specs.declared.scan.Stage.{Stage}
 use Rattle.edge_reader.specs.declared.scan.Stage.TheVariants.{Start, Comment, Indent, Source, AfterSource, Target, AfterTarget, Weight, Rest, WrongId, WrongWeight}
-use Rattle.edge_reader.specs.Scans.{with_digit, line_start, in_source, in_target, in_weight, in_third, at_start, after_blank, in_field, next_in_line, let_go, next_byte, scanned, judged_at, judged}
-use Rattle.edge_reader.proofs.SmallNumbers.{on_some, number_from, small_is}
+use Rattle.edge_reader.specs.Scans.{with_digit, with_digits, line_start, in_source, in_target, in_weight, in_third, at_start, after_blank, in_field, next_in_line, next_byte, scanned, judged_at, judged}
+use Rattle.edge_reader.proofs.SmallNumbers.{small_is}
 
 -- ---- the pieces between separators
 
@@ -74,18 +74,18 @@ stays w stage blank other s (b ∷ bs) = stays_at w stage blank other s b bs (is
 -- ---- the third field
 
 abbrev ThirdSaid : Bool → List ℕ → Type 0
-ThirdSaid w bs = (s : Scan) → then_said w (at_stage Weight s) bs ≡ weighed_line s.source s.target (number_from s.weight (first (pieces bs)))
+ThirdSaid w bs = (s : Scan) → then_said w (at_stage Weight s) bs ≡ weighed_line s.source s.target (with_digits s.weight (first (pieces bs)))
 
 third_byte : (w : Bool) (s : Scan) (n b : ℕ) (bs : List ℕ) (o : Option ℕ) → with_digit n b ≡ o → ThirdSaid w bs →
-    then_said w (in_weight s n b) bs ≡ weighed_line s.source s.target (number_from n (b ∷ first (pieces bs)))
+    then_said w (in_weight s n b) bs ≡ weighed_line s.source s.target (with_digits n (b ∷ first (pieces bs)))
 third_byte w s n b bs (Some m) e rest = rw (e, in_weight) (rest (record s { weight = m }))
 third_byte w s n b bs None e rest = rw (e, in_weight) (stays w WrongWeight refl (λ t c. refl) s bs)
 
 third_at : (w : Bool) (s : Scan) (b : ℕ) (bs : List ℕ) (t : Bool) → is_blank b ≡ t → ThirdSaid w bs →
-    then_said w (at_stage Weight s) (b ∷ bs) ≡ weighed_line s.source s.target (number_from s.weight (first (pieces (b ∷ bs))))
-third_at w s b bs true e rest = on_blank w (at_stage Weight s) b bs e ∙ stays w Rest refl (λ t c. refl) s bs ∙ sym (ap (λ ps. weighed_line s.source s.target (number_from s.weight (first ps))) (pieces_blank b bs e))
+    then_said w (at_stage Weight s) (b ∷ bs) ≡ weighed_line s.source s.target (with_digits s.weight (first (pieces (b ∷ bs))))
+third_at w s b bs true e rest = on_blank w (at_stage Weight s) b bs e ∙ stays w Rest refl (λ t c. refl) s bs ∙ sym (ap (λ ps. weighed_line s.source s.target (with_digits s.weight (first ps))) (pieces_blank b bs e))
 third_at w s b bs false e rest = on_other w (at_stage Weight s) b bs e ∙ third_byte w (at_stage Weight s) s.weight b bs (with_digit s.weight b) refl rest
-    ∙ sym (ap (λ ps. weighed_line s.source s.target (number_from s.weight (first ps))) (pieces_other b bs e))
+    ∙ sym (ap (λ ps. weighed_line s.source s.target (with_digits s.weight (first ps))) (pieces_other b bs e))
 
 third : (w : Bool) (bs : List ℕ) → ThirdSaid w bs
 third w [] = λ s. refl
@@ -117,19 +117,19 @@ target_line_is w a rest None = refl
 target_line_is w a rest (Some b) = refl
 
 abbrev SecondSaid : Bool → List ℕ → Type 0
-SecondSaid w bs = (s : Scan) → then_said w (at_stage Target s) bs ≡ target_then w s.source (fields (later (pieces bs))) (number_from s.target (first (pieces bs)))
+SecondSaid w bs = (s : Scan) → then_said w (at_stage Target s) bs ≡ target_then w s.source (fields (later (pieces bs))) (with_digits s.target (first (pieces bs)))
 
 second_byte : (w : Bool) (s : Scan) (n b : ℕ) (bs : List ℕ) (o : Option ℕ) → with_digit n b ≡ o → SecondSaid w bs →
-    then_said w (in_target s n b) bs ≡ target_then w s.source (fields (later (pieces bs))) (number_from n (b ∷ first (pieces bs)))
+    then_said w (in_target s n b) bs ≡ target_then w s.source (fields (later (pieces bs))) (with_digits n (b ∷ first (pieces bs)))
 second_byte w s n b bs (Some m) e rest = rw (e, in_target) (rest (record s { target = m }))
 second_byte w s n b bs None e rest = rw (e, in_target) (stays w WrongId refl (λ t c. refl) s bs)
 
 second_at : (w : Bool) (s : Scan) (b : ℕ) (bs : List ℕ) (t : Bool) → is_blank b ≡ t → SecondSaid w bs →
-    then_said w (at_stage Target s) (b ∷ bs) ≡ target_then w s.source (fields (later (pieces (b ∷ bs)))) (number_from s.target (first (pieces (b ∷ bs))))
+    then_said w (at_stage Target s) (b ∷ bs) ≡ target_then w s.source (fields (later (pieces (b ∷ bs)))) (with_digits s.target (first (pieces (b ∷ bs))))
 second_at w s b bs true e rest = on_blank w (at_stage Target s) b bs e ∙ before_third w s bs
-    ∙ sym (ap (λ ps. target_then w s.source (fields (later ps)) (number_from s.target (first ps))) (pieces_blank b bs e))
+    ∙ sym (ap (λ ps. target_then w s.source (fields (later ps)) (with_digits s.target (first ps))) (pieces_blank b bs e))
 second_at w s b bs false e rest = on_other w (at_stage Target s) b bs e ∙ second_byte w (at_stage Target s) s.target b bs (with_digit s.target b) refl rest
-    ∙ sym (ap (λ ps. target_then w s.source (fields (later ps)) (number_from s.target (first ps))) (pieces_other b bs e))
+    ∙ sym (ap (λ ps. target_then w s.source (fields (later ps)) (with_digits s.target (first ps))) (pieces_other b bs e))
 
 second : (w : Bool) (bs : List ℕ) → SecondSaid w bs
 second w [] = λ s. refl
@@ -159,19 +159,19 @@ source_line_is w rest None = refl
 source_line_is w rest (Some a) = refl
 
 abbrev FirstSaid : Bool → List ℕ → Type 0
-FirstSaid w bs = (s : Scan) → then_said w (at_stage Source s) bs ≡ source_then w (fields (later (pieces bs))) (number_from s.source (first (pieces bs)))
+FirstSaid w bs = (s : Scan) → then_said w (at_stage Source s) bs ≡ source_then w (fields (later (pieces bs))) (with_digits s.source (first (pieces bs)))
 
 first_byte : (w : Bool) (s : Scan) (n b : ℕ) (bs : List ℕ) (o : Option ℕ) → with_digit n b ≡ o → FirstSaid w bs →
-    then_said w (in_source s n b) bs ≡ source_then w (fields (later (pieces bs))) (number_from n (b ∷ first (pieces bs)))
+    then_said w (in_source s n b) bs ≡ source_then w (fields (later (pieces bs))) (with_digits n (b ∷ first (pieces bs)))
 first_byte w s n b bs (Some m) e rest = rw (e, in_source) (rest (record s { source = m }))
 first_byte w s n b bs None e rest = rw (e, in_source) (stays w WrongId refl (λ t c. refl) s bs)
 
 first_at : (w : Bool) (s : Scan) (b : ℕ) (bs : List ℕ) (t : Bool) → is_blank b ≡ t → FirstSaid w bs →
-    then_said w (at_stage Source s) (b ∷ bs) ≡ source_then w (fields (later (pieces (b ∷ bs)))) (number_from s.source (first (pieces (b ∷ bs))))
+    then_said w (at_stage Source s) (b ∷ bs) ≡ source_then w (fields (later (pieces (b ∷ bs)))) (with_digits s.source (first (pieces (b ∷ bs))))
 first_at w s b bs true e rest = on_blank w (at_stage Source s) b bs e ∙ before_second w s bs
-    ∙ sym (ap (λ ps. source_then w (fields (later ps)) (number_from s.source (first ps))) (pieces_blank b bs e))
+    ∙ sym (ap (λ ps. source_then w (fields (later ps)) (with_digits s.source (first ps))) (pieces_blank b bs e))
 first_at w s b bs false e rest = on_other w (at_stage Source s) b bs e ∙ first_byte w (at_stage Source s) s.source b bs (with_digit s.source b) refl rest
-    ∙ sym (ap (λ ps. source_then w (fields (later ps)) (number_from s.source (first ps))) (pieces_other b bs e))
+    ∙ sym (ap (λ ps. source_then w (fields (later ps)) (with_digits s.source (first ps))) (pieces_other b bs e))
 
 firsts : (w : Bool) (bs : List ℕ) → FirstSaid w bs
 firsts w [] = λ s. refl

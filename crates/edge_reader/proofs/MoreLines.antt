@@ -1,17 +1,19 @@
 -- One line more, and one byte more.
-use Rattle.std.proofs.Common.{◌≡◌, ℕ, zero, suc, ◌+◌, ◌-◌, ◌≤◌, ◌<◌, ◌^◌, Bool, true, false, cond, List, [], ◌∷◌, ◌++◌, length, map, take, drop, get_or, append_assoc, refl, sym, ap, ◌∙◌, subst, arith, append-nil, length-append}
+use Rattle.std.proofs.Common.{◌≡◌, ℕ, zero, suc, ◌+◌, ◌-◌, ◌≤◌, ◌<◌, Bool, List, [], ◌∷◌, ◌++◌, length, map, take, drop, get_or, append_assoc, refl, sym, ap, ◌∙◌, subst, arith, append-nil, length-append}
 use Rattle.std.specs.Prelude.{Result, Ok, Err, ◌≢◌, OnOk, IfErr}
 use Rattle.std.proofs.lemmas.List.{map-append, length-map, length-take, take_more, take-append-drop}
 use Rattle.std.proofs.lemmas.List.Concat.{flat_map-append}
 use Rattle.std.proofs.lemmas.List.Sums.{fold-append}
-use Rattle.px_base.specs.Lines.{IdEdge, Line, skipped, an_edge, faulty, LineFault, line_of, ends_of}
+use Rattle.px_base.specs.Lines.{IdEdge, skipped, an_edge, faulty, LineFault, line_of, ends_of}
 use Rattle.px_base.specs.Inputs.{InputFault, bad_line, too_many_edges, line_then, edges_within, ended_lines, input_limits}
 use Rattle.edge_reader.specs.declared.fault.EdgeFault.{EdgeFault}
 use Rattle.edge_reader.specs.declared.fault.EdgeFault.TheVariants.{Missing, BadId, BadWeight, TooManyVertices, TooManyEdges, TooLong, ReadFault, Memory}
 use Rattle.edge_reader.specs.declared.lines.ReadLines.{ReadLines}
 use Rattle.edge_reader.specs.declared.scan.Scan.{Scan}
 use Rattle.edge_reader.specs.Readings.{Says, IsBadLine}
-use Rattle.edge_reader.specs.Scans.{scanned, next_byte, line_start}
+use Rattle.edge_reader.specs.Scans.{scanned, next_byte, line_start, TakesDigits, bytes_between}
+use Rattle.std.specs.List.{fold, AllByRecursion}
+use Rattle.std.proofs.Math.Seq.{take-add}
 use Rattle.edge_reader.specs.Lists.{AreRead, IsLineFault, RefusesEdge, Adds, IsFed, open_line}
 use Rattle.edge_reader.proofs.EdgesWithin.{with_edges, one_more_line, fault_stays}
 use Rattle.edge_reader.proofs.Texts.{ended_newline, open_newline, ended_byte, open_byte, ended_begin, BeginsLines}
@@ -103,9 +105,10 @@ fault_longer w text more fault h =
 -- ---- one byte more
 
 pub byte_more : (text : List ℕ) (b : ℕ) (read : ReadLines) (scan : Scan) → b ≢ 10 → IsFed text read scan → IsFed (text ++ b ∷ []) read (next_byte read.weighted scan b)
-byte_more text b read scan other h =
-    (subst (λ lines. AreRead lines read) (sym (ended_byte text b other)) h.0,
-    ap (λ s. next_byte read.weighted s b) h.1 ∙ sym (fold-append (next_byte read.weighted) line_start (open_line text) (b ∷ [])) ∙ ap (scanned read.weighted) (sym (open_byte text b other)))
+byte_more text b read scan other h = (
+  subst (λ lines. AreRead lines read) (sym (ended_byte text b other)) h.0,
+  ap (λ s. next_byte read.weighted s b) h.1 ∙ sym (fold-append (next_byte read.weighted) line_start (open_line text) (b ∷ [])) ∙ ap (scanned read.weighted) (sym (open_byte text b other)),
+)
 
 pub newline_more : (text : List ℕ) (read : ReadLines) → AreRead (ended_lines text ++ open_line text ∷ []) read → IsFed (text ++ 10 ∷ []) read line_start
 newline_more text read h = (subst (λ lines. AreRead lines read) (sym (ended_newline text)) h, ap (scanned read.weighted) (sym (open_newline text)))
@@ -127,3 +130,21 @@ fault_of_piece w text piece i fault below h =
     let whole : (text ++ take (i + 1) piece) ++ drop (i + 1) piece ≡ text ++ piece = append_assoc text (take (i + 1) piece) (drop (i + 1) piece) ∙ ap (λ l. text ++ l) (take-append-drop (i + 1) piece) in
     subst (λ l. IsLineFault w (ended_lines l) fault) whole
     (fault_longer w (text ++ take (i + 1) piece) (drop (i + 1) piece) fault (subst (λ l. IsLineFault w (ended_lines l) fault) (sym (one_taken text piece i below)) h))
+
+-- ---- several bytes of a line
+
+pub bytes_more : (bytes text : List ℕ) (read : ReadLines) (scan : Scan) → AllByRecursion (λ b. b ≢ 10) bytes → IsFed text read scan → IsFed (text ++ bytes) read (fold (next_byte read.weighted) scan bytes)
+bytes_more [] text read scan none h = rw append-nil h
+bytes_more (b ∷ bs) text read scan none h =
+    subst (λ l. IsFed l read (fold (next_byte read.weighted) scan (b ∷ bs))) (append_assoc text (b ∷ []) bs)
+    (bytes_more bs (text ++ b ∷ []) read (next_byte read.weighted scan b) none.1 (byte_more text b read scan none.0 h))
+
+between : (piece : List ℕ) (from to : ℕ) → from ≤ to → take from piece ++ bytes_between piece from to ≡ take to piece
+between piece from to h = let sum : to ≡ from + (to - from) = omega arith in sym (ap (λ n. take n piece) sum ∙ take-add from (to - from) piece)
+
+-- a scan takes the bytes of a piece between two places
+pub digits_more : (text piece : List ℕ) (from to : ℕ) (read : ReadLines) (old new : Scan) → from ≤ to → TakesDigits old new (bytes_between piece from to) → IsFed (text ++ take from piece) read old → IsFed (text ++ take to piece) read new
+digits_more text piece from to read old new h takes fed =
+    let whole : (text ++ take from piece) ++ bytes_between piece from to ≡ text ++ take to piece = append_assoc text (take from piece) (bytes_between piece from to) ∙ ap (λ l. text ++ l) (between piece from to h) in
+    subst (λ l. IsFed l read new) whole (subst (IsFed ((text ++ take from piece) ++ bytes_between piece from to) read) (sym (takes.taken read.weighted))
+    (bytes_more (bytes_between piece from to) (text ++ take from piece) read old takes.inside fed))

@@ -1,7 +1,6 @@
 -- Ends of edges by the positions of their ids.
-use Rattle.std.proofs.Common.{◌≡◌, ℕ, zero, suc, ◌+◌, ◌*◌, ◌<◌, ◌≤◌, Bool, true, false, not, List, [], ◌∷◌, length, map, refl, sym, ap, ◌∙◌, arith, get_or}
-use Rattle.std.specs.Prelude.{◌==◌, ◌↔◌, Contains, slice_index}
-use Rattle.std.specs.List.{AllPairs, position_or_len}
+use Rattle.std.proofs.Common.{◌≡◌, ℕ, zero, suc, ◌+◌, ◌*◌, ◌<◌, List, [], ◌∷◌, length, map, refl, sym, ap, ◌∙◌, arith, get_or}
+use Rattle.std.specs.Prelude.{◌==◌}
 use Rattle.std.specs.List.Sorted.{IsStrictlyIncreasing}
 use Rattle.std.proofs.lemmas.Bool.{eq-eqb, ne_eqb}
 use Rattle.std.proofs.lemmas.List.{length-map, get_or-map, same_lists, get_or_default}
@@ -11,7 +10,7 @@ use Rattle.px_base.specs.declared.graph.Edge.{Edge}
 use Rattle.px_base.specs.Values.{place_of, by_position}
 use Rattle.px_base.specs.Lines.{IdEdge, ends_of, placed_edge}
 use Rattle.px_base.proofs.Positions.{length_by_position, at_position}
-use Rattle.edge_reader.specs.Places.{ArePlaced, edge_at}
+use Rattle.edge_reader.specs.Places.{edge_at}
 
 -- where a number stands in a rising list
 pub place_is : (ids : List ℕ) (x p : ℕ) → IsStrictlyIncreasing ids → p < length ids → get_or ids p 0 ≡ x → p ≡ place_of ids x

@@ -11,16 +11,7 @@ use Rattle.px_base.specs.Lines.{small_number}
 use Rattle.px_base.specs.Text.{digits_end, number_of}
 use Rattle.px_base.specs.declared.number.NumberFault.{NumberFault}
 use Rattle.px_base.specs.declared.number.NumberFault.TheVariants.{Empty, NotDigit, TooGreat}
-use Rattle.edge_reader.specs.Scans.{with_digit}
-
-abbrev pub on_some : {X Y : Type 0} → Option X → (X → Option Y) → Option Y
-on_some None f = None
-on_some (Some x) f = f x
-
--- the number that the bytes make of n, where they are digits and it stays below 2 ^ 32
-abbrev pub number_from : ℕ → List ℕ → Option ℕ
-number_from n [] = Some n
-number_from n (b ∷ bs) = on_some (with_digit n b) (λ m. number_from m bs)
+use Rattle.edge_reader.specs.Scans.{with_digits}
 
 abbrev all_digits : List ℕ → Bool
 all_digits [] = true
@@ -45,19 +36,19 @@ small_enough : (v : ℕ) → v < 2 ^ 32 → small_whole true v ≡ Some v
 small_enough v h = rw (le-ltb (2 ^ 32 - 1) v (omega arith)) refl
 
 by_size : (n b : ℕ) (bs : List ℕ) (t : Bool) → is_ascii_digit b ≡ true → nat_lt (n * 10 + (b - 48)) (2 ^ 32) ≡ t →
-    ((m : ℕ) → m < 2 ^ 32 → number_from m bs ≡ small_whole (all_digits bs) (digits_value_after 10 m bs)) →
-    number_from n (b ∷ bs) ≡ small_whole (all_digits (b ∷ bs)) (digits_value_after 10 n (b ∷ bs))
+    ((m : ℕ) → m < 2 ^ 32 → with_digits m bs ≡ small_whole (all_digits bs) (digits_value_after 10 m bs)) →
+    with_digits n (b ∷ bs) ≡ small_whole (all_digits (b ∷ bs)) (digits_value_after 10 n (b ∷ bs))
 by_size n b bs true d t rest = rw (d, t, digit_is b d) (rest (n * 10 + (b - 48)) (ltb-true (n * 10 + (b - 48)) (2 ^ 32) t))
 by_size n b bs false d t rest = rw (d, t, digit_is b d)
     (sym (too_great (all_digits bs) (digits_value_after 10 (n * 10 + (b - 48)) bs) (omega (arith, ltb-false (n * 10 + (b - 48)) (2 ^ 32) t, after_ge bs (n * 10 + (b - 48))))))
 
 by_digit : (n b : ℕ) (bs : List ℕ) (t : Bool) → is_ascii_digit b ≡ t →
-    ((m : ℕ) → m < 2 ^ 32 → number_from m bs ≡ small_whole (all_digits bs) (digits_value_after 10 m bs)) →
-    number_from n (b ∷ bs) ≡ small_whole (all_digits (b ∷ bs)) (digits_value_after 10 n (b ∷ bs))
+    ((m : ℕ) → m < 2 ^ 32 → with_digits m bs ≡ small_whole (all_digits bs) (digits_value_after 10 m bs)) →
+    with_digits n (b ∷ bs) ≡ small_whole (all_digits (b ∷ bs)) (digits_value_after 10 n (b ∷ bs))
 by_digit n b bs true d rest = by_size n b bs (nat_lt (n * 10 + (b - 48)) (2 ^ 32)) d refl rest
 by_digit n b bs false d rest = rw d refl
 
-from_is : (bs : List ℕ) (n : ℕ) → n < 2 ^ 32 → number_from n bs ≡ small_whole (all_digits bs) (digits_value_after 10 n bs)
+from_is : (bs : List ℕ) (n : ℕ) → n < 2 ^ 32 → with_digits n bs ≡ small_whole (all_digits bs) (digits_value_after 10 n bs)
 from_is [] n h = sym (small_enough n h)
 from_is (b ∷ bs) n h = by_digit n b bs (is_ascii_digit b) refl (λ m small. from_is bs m small)
 
@@ -83,7 +74,7 @@ read_is false true at v = refl
 read_is false false at v = refl
 
 -- what a field with a byte writes
-pub small_is : (b : ℕ) (bs : List ℕ) → small_number (b ∷ bs) ≡ number_from 0 (b ∷ bs)
+pub small_is : (b : ℕ) (bs : List ℕ) → small_number (b ∷ bs) ≡ with_digits 0 (b ∷ bs)
 small_is b bs =
     let f : List ℕ = b ∷ bs in
     let some : (length f == 0) ≡ false = ne_eqb (length f) 0 (λ e. omega (arith, e)) in

@@ -1,6 +1,6 @@
 -- What the bytes that were taken say of the whole input.
 use Rattle.std.proofs.Common.{◌≡◌, ℕ, ◌+◌, ◌-◌, ◌*◌, ◌≤◌, ◌<◌, ◌^◌, Bool, true, false, cond, List, [], ◌∷◌, ◌++◌, length, map, take, drop, refl, sym, ap, ◌∙◌, subst, arith, append-nil, append_assoc, length-append}
-use Rattle.std.specs.Prelude.{Option, Some, None, Result, Ok, Err, ◌≢◌, nat_lt}
+use Rattle.std.specs.Prelude.{Option, Some, None, Result, Ok, Err, nat_lt}
 use Rattle.std.specs.Io.KnownBytes.{Consumes, IsAtEnd, Keeps}
 use Rattle.std.proofs.KnownBytes.{Consumes-nil, Consumes-trans, Consumes-kept}
 use Rattle.std.proofs.lemmas.Bool.{le-ltb, lt-ltb, ltb-true, ltb-false}
@@ -8,7 +8,7 @@ use Rattle.std.proofs.Math.Seq.{take-append-add}
 use Rattle.std.proofs.lemmas.List.{take-append-drop, take-take, take_at, length-take-le, length-drop, length-map}
 use Rattle.px_base.specs.declared.graph.EdgeList.{EdgeList}
 use Rattle.px_base.specs.Lines.{IdEdge, lines_of, ends_of}
-use Rattle.px_base.specs.Inputs.{InputFault, too_long, edges_within, ended_lines, input_limits, input_of, result_at_end, result_cut_short}
+use Rattle.px_base.specs.Inputs.{InputFault, too_long, ended_lines, input_limits, input_of, result_at_end, result_cut_short}
 use Rattle.edge_reader.specs.declared.fault.EdgeFault.{EdgeFault}
 use Rattle.edge_reader.specs.declared.fault.EdgeFault.TheVariants.{Missing, BadId, BadWeight, TooManyVertices, TooManyEdges, TooLong, ReadFault, Memory}
 use Rattle.edge_reader.specs.declared.lines.ReadLines.{ReadLines}

@@ -1,5 +1,5 @@
 -- The lines that are read so far.
-use Rattle.std.specs.Prelude.{◌≡◌, ◌≢◌, ⊤, ℕ, ◌+◌, ◌≤◌, Bool, List, [], ◌∷◌, ◌==◌, Option, Result, Ok, Err, length, map}
+use Rattle.std.specs.Prelude.{◌≡◌, ◌≢◌, ⊤, ℕ, ◌+◌, ◌≤◌, Bool, List, [], ◌∷◌, ◌++◌, take, ◌==◌, Option, Result, Ok, Err, length, map}
 use Rattle.std.specs.Io.KnownBytes.{Consumes, IsAtEnd}
 use Rattle.px_base.specs.Lines.{IdEdge, ends_of, pieces_at}
 use Rattle.px_base.specs.Inputs.{edges_within, input_limits, ended_lines}
@@ -66,6 +66,11 @@ Feeds text read scan (Err fault) = IsLineFault read.weighted (ended_lines text) 
 abbrev pub FeedsOn : List ℕ → ReadLines → Result Scan EdgeFault → Type 0
 FeedsOn text read (Ok scan) = IsFed text read scan
 FeedsOn text read (Err fault) = IsLineFault read.weighted (ended_lines text) fault
+
+-- the text is read on up to a place of a piece, or a line that ended in the piece has a fault
+abbrev pub FeedsUpTo : List ℕ → List ℕ → ReadLines → Scan → Result ℕ EdgeFault → Type 0
+FeedsUpTo text piece read scan (Ok next) = IsFed (text ++ take next piece) read scan
+FeedsUpTo text piece read scan (Err fault) = IsLineFault read.weighted (ended_lines (text ++ piece)) fault
 
 -- all lines of the input are read, the last one too
 pub record AreAllRead (weighted : Bool) (left rest : Option (List ℕ)) (read : ReadLines) : Type 0 where

@@ -1,6 +1,6 @@
 -- What is known of a line after some of its bytes.
-use Rattle.std.specs.Prelude.{ℕ, ◌+◌, ◌-◌, ◌*◌, ◌^◌, Bool, true, false, ◌==◌, ◌||◌, nat_lt, if◌then◌else◌, Option, Some, None, List}
-use Rattle.std.specs.List.{fold}
+use Rattle.std.specs.Prelude.{ℕ, ◌+◌, ◌-◌, ◌*◌, ◌^◌, Bool, true, false, ◌==◌, ◌||◌, nat_lt, if◌then◌else◌, Option, Some, None, List, [], ◌∷◌, take, drop, ◌≡◌, ◌≢◌}
+use Rattle.std.specs.List.{fold, AllByRecursion}
 use Rattle.px_base.specs.Lines.{Line, skipped, an_edge, faulty, missing, bad_id, bad_weight, is_blank}
 use Rattle.std.specs.Char.{is_ascii_digit}
 use Rattle.edge_reader.specs.declared.scan.Scan.{Scan}
@@ -12,6 +12,19 @@ use Rattle.edge_reader.specs.declared.scan.Said.TheVariants.{Skipped, Edge, Miss
 -- the number with one more digit, where the byte is one and the number stays below 2 ^ 32
 abbrev pub with_digit : ℕ → ℕ → Option ℕ
 with_digit number byte = if is_ascii_digit byte then (if nat_lt (number * 10 + (byte - 48)) (2 ^ 32) then Some (number * 10 + (byte - 48)) else None) else None
+
+-- the number with the digits of these bytes, where all are digits and it stays below 2 ^ 32
+abbrev pub on_some : {X Y : Type 0} → Option X → (X → Option Y) → Option Y
+on_some None f = None
+on_some (Some x) f = f x
+
+abbrev pub with_digits : ℕ → List ℕ → Option ℕ
+with_digits n [] = Some n
+with_digits n (b ∷ bs) = on_some (with_digit n b) (λ m. with_digits m bs)
+
+-- the bytes from a place up to another
+abbrev pub bytes_between : List ℕ → ℕ → ℕ → List ℕ
+bytes_between piece from to = take (to - from) (drop from piece)
 
 -- nothing is read yet
 abbrev pub line_start : Scan
@@ -105,3 +118,8 @@ line_said (Edge a b w) = an_edge (record { source = a; target = b; weight = w })
 line_said Missing = faulty missing
 line_said BadId = faulty bad_id
 line_said BadWeight = faulty bad_weight
+
+-- the scan takes these bytes, and none of them is a newline
+pub record TakesDigits (old new : Scan) (bytes : List ℕ) : Type 0 where
+  pub taken : (weighted : Bool) → new ≡ fold (next_byte weighted) old bytes
+  pub inside : AllByRecursion (λ b. b ≢ 10) bytes

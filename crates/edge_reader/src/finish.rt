@@ -41,7 +41,9 @@ pub fn finish(alloc: Global, lines: ReadLines) -> Result<EdgeList, EdgeFault>
     ensures own { result ≡ Err EdgeFault.ReadFault → ⊥ }
 {
     let ReadLines {
-        mut ends, weights, ..
+        mut ends,
+        weights,
+        ..
     } = lines;
     let ids = place_ends(alloc, ends.as_mut_slice())?;
     if ids.len() > MOST_VERTICES {

@@ -1,8 +1,8 @@
-ghost use Rattle.std.specs.Prelude.{◌≡◌, ℕ, ◌+◌, ◌<◌, ◌^◌, List, [], ◌∷◌, ◌++◌, Ok, OnOk, IfErr, length};
+ghost use Rattle.std.specs.Prelude.{◌≡◌, ℕ, ◌+◌, ◌<◌, ◌≤◌, ◌^◌, List, [], ◌∷◌, ◌++◌, Ok, take, IfOk, OnOk, IfErr, length};
 ghost use Rattle.px_base.specs.Lines.{line_of};
 ghost use Rattle.px_base.specs.Inputs.{input_limits};
 ghost use Rattle.edge_reader.specs.Scans.{line_said};
-ghost use Rattle.edge_reader.specs.Lists.{AreRead, Adds, RefusesEdge, IsFed, Feeds, FeedsOn};
+ghost use Rattle.edge_reader.specs.Lists.{AreRead, Adds, RefusesEdge, IsFed, Feeds, FeedsOn, FeedsUpTo};
 
 use crate::EdgeFault;
 use crate::scan::{Said, Scan};
@@ -86,13 +86,34 @@ impl ReadLines {
         }
     }
 
+    /// Reads the digits of a number from this place of the piece on, and the byte after them. It answers the next place.
+    fn digits_and_byte(
+        &mut self,
+        scan: &mut Scan,
+        piece: &[u8],
+        from: usize,
+    ) -> Result<usize, EdgeFault>
+        requires { from < length piece.now }
+        ensures weighted { self.new.weighted ≡ self.old.weighted }
+        ensures within { IfOk result (λ next. (from < next) × (next ≤ length piece.now)) }
+        ensures fed { (text : List ℕ) → IsFed (text ++ take from piece.now) self.old scan.old → length (text ++ piece.now) < 2 ^ 32 → FeedsUpTo text piece.now self.new scan.new result }
+    {
+        let at = scan.take_digits(piece, from);
+        if at == piece.len() {
+            return Ok(at);
+        }
+        self.one_byte(scan, piece[at])?;
+        Ok(at + 1)
+    }
+
     /// Reads on in a piece of the text. The scan knows the line that is open.
     pub fn feed(&mut self, mut scan: Scan, piece: &[u8]) -> Result<Scan, EdgeFault>
         ensures weighted { self.new.weighted ≡ self.old.weighted }
         ensures fed { (text : List ℕ) → IsFed text self.old scan → length (text ++ piece.now) < 2 ^ 32 → FeedsOn (text ++ piece.now) self.new result }
     {
-        for byte in piece {
-            self.one_byte(&mut scan, *byte)?;
+        let mut at = 0;
+        while at < piece.len() {
+            at = self.digits_and_byte(&mut scan, piece, at)?;
         }
         Ok(scan)
     }

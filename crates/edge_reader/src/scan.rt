@@ -1,6 +1,6 @@
-ghost use Rattle.std.specs.Prelude.{◌≡◌, ◌==◌, ◌||◌};
+ghost use Rattle.std.specs.Prelude.{◌≡◌, ◌==◌, ◌||◌, ◌≤◌, Some, length};
 ghost use Rattle.px_base.specs.Lines.{is_blank};
-ghost use Rattle.edge_reader.specs.Scans.{with_digit, in_source, in_target, in_weight, in_third, after_blank, at_start, in_field, next_in_line, let_go, next_byte, line_start, judged, line_said};
+ghost use Rattle.edge_reader.specs.Scans.{with_digit, in_source, in_target, in_weight, in_third, after_blank, at_start, in_field, next_in_line, let_go, next_byte, line_start, judged, line_said, with_digits, bytes_between, TakesDigits};
 
 /// How far a line is understood.
 #[derive(Clone, Copy)]
@@ -62,6 +62,31 @@ fn with_digit(number: u32, byte: u8) -> Option<u32>
     } else {
         None
     }
+}
+
+/// A number and the place after its digits.
+#[derive(Clone, Copy)]
+struct Run {
+    number: u32,
+    end: usize,
+}
+
+/// The number with the digits from this place on, as far as they go and it stays below 2^32.
+fn digits_from(number: u32, piece: &[u8], from: usize) -> Run
+    requires { from ≤ length piece.now }
+    ensures within { (from ≤ result.end) × (result.end ≤ length piece.now) }
+    ensures number { with_digits number (bytes_between piece.now from result.end) ≡ Some result.number }
+{
+    let mut number = number;
+    let mut end = from;
+    while end < piece.len() {
+        let Some(more) = with_digit(number, piece[end]) else {
+            break;
+        };
+        number = more;
+        end += 1;
+    }
+    Run { number, end }
 }
 
 /// The stage after a blank or a tab.
@@ -191,6 +216,36 @@ impl Scan {
             self.held = true;
         } else {
             self.next_in_line(weighted, byte);
+        }
+    }
+
+    /// Takes the digits from this place on that belong to the number of the field, and answers where they end. It takes
+    /// none at the first byte of a field.
+    pub fn take_digits(&mut self, piece: &[u8], from: usize) -> usize
+        requires { from ≤ length piece.now }
+        ensures within { (from ≤ result) × (result ≤ length piece.now) }
+        ensures taken { TakesDigits self.old self.new (bytes_between piece.now from result) }
+    {
+        if self.held {
+            return from;
+        }
+        match self.stage {
+            Stage::Source => {
+                let run = digits_from(self.source, piece, from);
+                self.source = run.number;
+                run.end
+            }
+            Stage::Target => {
+                let run = digits_from(self.target, piece, from);
+                self.target = run.number;
+                run.end
+            }
+            Stage::Weight => {
+                let run = digits_from(self.weight, piece, from);
+                self.weight = run.number;
+                run.end
+            }
+            _ => from,
         }
     }
 

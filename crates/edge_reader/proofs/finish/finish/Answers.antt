@@ -1,5 +1,4 @@
-use Rattle.std.proofs.Common.{arith, ◌≡◌, ◌≤◌, ◌<◌, ℕ, List, Ok, length, ap, sym, subst, ◌∙◌}
-use Rattle.px_base.specs.declared.graph.EdgeList.{EdgeList}
+use Rattle.std.proofs.Common.{arith, ◌≡◌, ℕ, List, Ok, sym, subst, ◌∙◌}
 use Rattle.px_base.specs.Lines.{EdgeListFits}
 use Rattle.px_base.specs.Inputs.{input_limits, result_at_end}
 use Rattle.edge_reader.specs.Places.{ArePlaced}

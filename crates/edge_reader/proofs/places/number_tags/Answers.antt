@@ -1,5 +1,4 @@
-use Rattle.std.proofs.Common.{arith, ◌≡◌, ◌-◌, ◌+◌, ◌<◌, ◌%◌, ◌^◌, ℕ, set, get_or, length, ap, sym, subst, ◌∙◌}
-use Rattle.edge_reader.specs.Places.{with_id}
+use Rattle.std.proofs.Common.{arith, ◌≡◌, ◌-◌, ◌+◌, ◌<◌, ℕ, set, get_or, length, subst}
 use Rattle.edge_reader.proofs.Numbering.{Numbered, AddsId, id_of, number, with_id_adds, numbered_more, numbered_all}
 use Rattle.edge_reader.proofs.places.number_tags.Goals as goal
 

@@ -1,4 +1,4 @@
-use Rattle.std.proofs.Common.{arith, ap, ◌∙◌, refl, ◌≡◌, ◌+◌}
+use Rattle.std.proofs.Common.{arith, ap, ◌∙◌, refl}
 use Rattle.edge_reader.specs.Scans.{line_said}
 use Rattle.edge_reader.proofs.MoreLines.{skipped_more, edge_adds, bad_more}
 use Rattle.edge_reader.proofs.lines.ReadLines.end_line.Goals as goal

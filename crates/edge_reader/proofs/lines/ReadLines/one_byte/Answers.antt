@@ -1,9 +1,9 @@
-use Rattle.std.proofs.Common.{arith, ap, ◌∙◌, ◌≡◌, sym, subst, List, ℕ, ◌++◌, ◌∷◌, [], ◌<◌, ◌^◌, length}
+use Rattle.std.proofs.Common.{arith, ap, ◌∙◌, ◌≡◌, sym, ◌<◌, ◌^◌, length}
 use Rattle.std.proofs.lemmas.Result.{err_from_is_err_and}
 use Rattle.px_base.specs.Inputs.{ended_lines}
 use Rattle.px_base.specs.Lines.{line_of}
-use Rattle.edge_reader.specs.Scans.{line_said, judged, scanned}
-use Rattle.edge_reader.specs.Lists.{open_line, Feeds}
+use Rattle.edge_reader.specs.Scans.{line_said, judged}
+use Rattle.edge_reader.specs.Lists.{open_line}
 use Rattle.edge_reader.proofs.LineScans.{scanned_is}
 use Rattle.edge_reader.proofs.Texts.{ended_few}
 use Rattle.edge_reader.proofs.MoreLines.{byte_more, newline_more, newline_fault}

@@ -1,5 +1,5 @@
 -- How an input that was read, and then solved for, ends.
-use Rattle.std.proofs.Common.{◌≡◌, ℕ, zero, suc, ◌<◌, Bool, true, false, not, List, [], ◌∷◌, length, get_or, refl, sym, ap, subst, ◌∙◌, arith, eqb-true, eq-eqb, inl, inr, ◌||◌}
+use Rattle.std.proofs.Common.{◌≡◌, ℕ, zero, suc, ◌<◌, Bool, true, false, cond, not, List, [], ◌∷◌, length, get_or, refl, sym, ap, subst, ◌∙◌, arith, eqb-true, eq-eqb, inl, inr, ◌||◌}
 use Rattle.std.specs.Prelude.{◌==◌, Option, Some, None, Result, Ok, Err, IfSome, IsTrue, IsOk, Contains, find, slice_index_or}
 use Rattle.std.specs.Io.KnownBytes.{Keeps, Appends, IsAtEnd}
 use Rattle.std.proofs.lemmas.List.Folds.{list_any_at}
@@ -67,11 +67,15 @@ input_stops id left rest what r = record {
   ended = λ h. cc;
 }
 
+-- the ending by whether the source is listed
+abbrev ending_if : ℕ → List IdEdge → Bool → Ending
+ending_if id edges listed = elim (cond (not listed) (Some id) None) as (λ _. Ending) [ Some unknown ↦ unknown_source unknown | None ↦ answered bfs (id ∷ []) edges ]
+
 unknown_ends : (id : ℕ) (edges : List IdEdge) → is_listed (ends_of edges) id ≡ false → ending_of_edges bfs (id ∷ []) (Ok edges) ≡ unknown_source id
-unknown_ends id edges none = rw none refl
+unknown_ends id edges none = ap (ending_if id edges) none
 
 known_ends : (id : ℕ) (edges : List IdEdge) → is_listed (ends_of edges) id ≡ true → ending_of_edges bfs (id ∷ []) (Ok edges) ≡ answered bfs (id ∷ []) edges
-known_ends id edges some = rw some refl
+known_ends id edges some = ap (ending_if id edges) some
 
 -- the source is in no edge
 pub source_stops : (id : ℕ) (left rest : Option (List ℕ)) (list : EdgeList) → IsReadingOf false left rest (Ok list) → is_listed list.ids id ≡ false → IsSolution bfs (id ∷ []) left rest (Err (stop.UnknownSource id))

@@ -27,7 +27,10 @@ fn run_bfs<R: Threads + Sync, S: Source, K: Sink>(
     ensures write_fault { outcome_status result ≡ 7 → Rose (K.faults sink.old) (K.faults sink.new) }
     ensures no_words { outcome_status result ≡ 2 → ⊥ }
 {
-    let text = bfs_text(rt, alloc, id, source)?;
+    let text = match bfs_text(rt, alloc, id, source) {
+        Ok(text) => text,
+        Err(stop) => return Err(stop),
+    };
     match put_all(sink, text.as_slice()) {
         Ok(()) => Ok(()),
         Err(PutFault::Failed) => Err(Stop::WriteFault),

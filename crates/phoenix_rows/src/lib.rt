@@ -1,0 +1,228 @@
+//! Tests of whole rows: from the words and the bytes of an input to the status, the answer and the fault line.
+#![tactic(auto)]
+
+#[cfg(test)]
+mod tests {
+    use phoenix_cli::phoenix;
+    use px_base::{Memory, Words, write_number};
+    use px_io::{MemSink, MemSource, SureSink, SureSource};
+    use std::alloc::Global;
+    use std::process::Abort;
+    use std::test::Fail;
+    use std::thread::Threads;
+
+    /// An edge list of four vertices, where vertex 2 is reached by two ways.
+    const FOUR: &str = "1 2\n1 3\n3 2\n2 4\n";
+
+    /// What a call answered, and what it wrote.
+    #[derive(Drop)]
+    struct Ran {
+        status: u8,
+        answer: Vec<u8>,
+        fault: Vec<u8>,
+    }
+
+    fn words_of(alloc: Global, texts: &[&str]) -> Result<Words, Memory> {
+        let mut words = Words::new(alloc);
+        for text in texts {
+            words.push(text)?;
+        }
+        Ok(words)
+    }
+
+    /// Runs over a source and sinks that never fail, and give and take at most so many bytes a call.
+    fn run_row<R: Threads + Sync>(
+        rt: &R,
+        alloc: Global,
+        words: &[&str],
+        input: &[u8],
+        most: usize,
+    ) -> Result<Ran, Memory> {
+        let words = words_of(alloc, words)?;
+        let mut source = SureSource::new(input.to_vec(alloc)?, most.max(1));
+        let mut sink = SureSink::new(alloc, most.max(1));
+        let mut faults = SureSink::new(alloc, most.max(1));
+        let status = phoenix(rt, alloc, &words, &mut source, &mut sink, &mut faults);
+        Ok(Ran {
+            status,
+            answer: sink.bytes().to_vec(alloc)?,
+            fault: faults.bytes().to_vec(alloc)?,
+        })
+    }
+
+    /// Asserts what the row gives, over sources of 1, 5 and 4096 bytes a call.
+    fn assert_row<R: Abort + Threads + Sync>(
+        rt: &R,
+        alloc: Global,
+        words: &[&str],
+        input: &str,
+        status: u8,
+        answer: &str,
+        fault: &str,
+    ) -> Result<(), Memory> {
+        for most in [1, 5, 4096] {
+            let ran = run_row(rt, alloc, words, input.as_bytes(), most)?;
+            assert_eq!(rt; ran.status, status, "{words:?} over {input:?} by {most}");
+            assert_eq!(rt; ran.answer.as_slice(), answer.as_bytes(), "{words:?} over {input:?} by {most}");
+            assert_eq!(rt; ran.fault.as_slice(), fault.as_bytes(), "{words:?} over {input:?} by {most}");
+        }
+        Ok(())
+    }
+
+    /// Runs `run bfs SOURCE` over a source of 5 bytes and sinks of 4 bytes a call. Of each of them the call with the
+    /// number that is given fails; calls count from 1.
+    fn run_failing<R: Threads + Sync>(
+        rt: &R,
+        alloc: Global,
+        id: &str,
+        input: &str,
+        failing: (u64, u64, u64),
+    ) -> Result<Ran, Memory> {
+        let (read, write, report) = failing;
+        let words = words_of(alloc, &["run", "bfs", id])?;
+        let mut source = MemSource::new(input.as_bytes().to_vec(alloc)?, 5, [read].to_vec(alloc)?);
+        let mut sink = MemSink::new(alloc, 4, [write].to_vec(alloc)?);
+        let mut faults = MemSink::new(alloc, 4, [report].to_vec(alloc)?);
+        let status = phoenix(rt, alloc, &words, &mut source, &mut sink, &mut faults);
+        Ok(Ran {
+            status,
+            answer: sink.bytes().to_vec(alloc)?,
+            fault: faults.bytes().to_vec(alloc)?,
+        })
+    }
+
+    #[test]
+    fn answers(rt: HostRuntime) -> Result<(), Fail> {
+        let rows = [
+            ("1", FOUR, "1 0\n2 1\n3 1\n4 2\n"),
+            ("4", FOUR, "1 inf\n2 inf\n3 inf\n4 0\n"),
+            ("1", "1 2 4\n", "1 0\n2 1\n"),
+            ("1", "1 2 x y z\n", "1 0\n2 1\n"),
+            ("1", "1 2 4294967296\n", "1 0\n2 1\n"),
+            ("1", "1 2\n1 2\n", "1 0\n2 1\n"),
+            ("1", "1 2\r", "1 0\n2 1\n"),
+            ("1", "\r\n \t \n\t1 2\t\r\n", "1 0\n2 1\n"),
+            (
+                "1",
+                "# Directed graph\n1\t2\r\n\n2 3 4 1199\n% x\n 3\t1",
+                "1 0\n2 1\n3 2\n",
+            ),
+            ("0", "4294967295 0\n", "0 0\n4294967295 inf\n"),
+            (
+                "5",
+                "0000000000000000000000000000000000000000000000000000000000005 7\n",
+                "5 0\n7 1\n",
+            ),
+            ("00000000000000000005", "5 7\n", "5 0\n7 1\n"),
+            ("3", "1 2\n3 4", "1 inf\n2 inf\n3 0\n4 1\n"),
+            ("5", "5 5\n5 6\n6 5\n", "5 0\n6 1\n"),
+        ];
+        for (id, input, answer) in rows {
+            assert_row(&rt, rt.alloc(), &["run", "bfs", id], input, 0, answer, "")?;
+        }
+        Ok(())
+    }
+
+    #[test]
+    fn refuses_inputs(rt: HostRuntime) -> Result<(), Fail> {
+        let rows = [
+            ("9", FOUR, 12, "phoenix: source 9 is in no edge line\n"),
+            ("007", FOUR, 12, "phoenix: source 7 is in no edge line\n"),
+            ("1", "", 12, "phoenix: source 1 is in no edge line\n"),
+            ("1", "# 1 2\n", 12, "phoenix: source 1 is in no edge line\n"),
+            ("1", "1 x\n", 3, "phoenix: line 1: bad vertex\n"),
+            ("1", "x 5\n", 3, "phoenix: line 1: bad vertex\n"),
+            ("1", "+1 2\n", 3, "phoenix: line 1: bad vertex\n"),
+            ("1", "4294967296 1\n", 3, "phoenix: line 1: bad vertex\n"),
+            ("1", "1 2\r\r\n", 3, "phoenix: line 1: bad vertex\n"),
+            ("1", "1\r2 3\n", 3, "phoenix: line 1: bad vertex\n"),
+            ("1", "\u{feff}1 2\n", 3, "phoenix: line 1: bad vertex\n"),
+            ("1", "1\u{0}2 3\n", 3, "phoenix: line 1: bad vertex\n"),
+            ("1", " # 1 2\n", 3, "phoenix: line 1: bad vertex\n"),
+            ("1", "7\n", 3, "phoenix: line 1: vertex missing\n"),
+            ("1", "7", 3, "phoenix: line 1: vertex missing\n"),
+            ("1", "1 2\n3\n", 3, "phoenix: line 2: vertex missing\n"),
+            ("1", "1 2\n\n# x\n3 -\n4\n", 3, "phoenix: line 4: bad vertex\n"),
+        ];
+        for (id, input, status, fault) in rows {
+            assert_row(&rt, rt.alloc(), &["run", "bfs", id], input, status, "", fault)?;
+        }
+        Ok(())
+    }
+
+    #[test]
+    fn refuses_words(rt: HostRuntime) -> Result<(), Fail> {
+        let rows: [&[&str]; 11] = [
+            &[],
+            &["run"],
+            &["run", "bfs"],
+            &["run", "bfs", "1", "2"],
+            &["run", "bfs", "-1"],
+            &["run", "bfs", "4294967296"],
+            &["run", "bfs", "1x"],
+            &["run", "bfs", "000000000000000000001"],
+            &["run", "bfs", ""],
+            &["run", "sssp", "1"],
+            &["solve", "bfs", "1"],
+        ];
+        for words in rows {
+            assert_row(&rt, rt.alloc(), words, FOUR, 2, "", "phoenix: bad words\n")?;
+        }
+        Ok(())
+    }
+
+    #[test]
+    fn goes_along_a_path(rt: HostRuntime) -> Result<(), Fail> {
+        let mut path = Vec::new(rt.alloc());
+        for id in 1..40u64 {
+            write_number(&mut path, id)?;
+            path.push(b' ')?;
+            write_number(&mut path, id + 1)?;
+            path.push(b'\n')?;
+        }
+        let ran = run_row(&rt, rt.alloc(), &["run", "bfs", "1"], path.as_slice(), 4096)?;
+        assert_eq!(rt; ran.status, 0);
+        assert!(rt; ran.answer.as_slice().ends_with(b"\n39 38\n40 39\n"));
+        Ok(())
+    }
+
+    #[test]
+    fn stops_at_a_read_fault(rt: HostRuntime) -> Result<(), Fail> {
+        // The 16 bytes come in four calls, and a fifth finds the end.
+        for call in 1..8u64 {
+            let ran = run_failing(&rt, rt.alloc(), "1", FOUR, (call, 0, 0))?;
+            let (status, answer, fault) = if call <= 5 {
+                (6, "", "phoenix: read fault\n")
+            } else {
+                (0, "1 0\n2 1\n3 1\n4 2\n", "")
+            };
+            assert_eq!(rt; ran.status, status, "at call {call}");
+            assert_eq!(rt; ran.answer.as_slice(), answer.as_bytes(), "at call {call}");
+            assert_eq!(rt; ran.fault.as_slice(), fault.as_bytes(), "at call {call}");
+        }
+        Ok(())
+    }
+
+    #[test]
+    fn stops_at_a_write_fault(rt: HostRuntime) -> Result<(), Fail> {
+        // The second number is of the call of the sink that fails, and the third of that for the fault line.
+        let rows = [
+            ("1", FOUR, 1, 0, 7, "", "phoenix: write fault\n"),
+            ("1", FOUR, 2, 0, 7, "1 0\n", "phoenix: write fault\n"),
+            ("1", FOUR, 3, 0, 7, "1 0\n2 1\n", "phoenix: write fault\n"),
+            ("1", FOUR, 4, 0, 7, "1 0\n2 1\n3 1\n", "phoenix: write fault\n"),
+            ("1", FOUR, 5, 0, 0, "1 0\n2 1\n3 1\n4 2\n", ""),
+            ("1", FOUR, 2, 1, 7, "1 0\n", ""),
+            ("1", "1 x\n", 0, 2, 3, "", "phoe"),
+            ("9", FOUR, 0, 3, 12, "", "phoenix:"),
+            ("x", FOUR, 0, 1, 2, "", ""),
+        ];
+        for (id, input, write, report, status, answer, fault) in rows {
+            let ran = run_failing(&rt, rt.alloc(), id, input, (0, write, report))?;
+            assert_eq!(rt; ran.status, status, "at {write} and {report}");
+            assert_eq!(rt; ran.answer.as_slice(), answer.as_bytes(), "at {write} and {report}");
+            assert_eq!(rt; ran.fault.as_slice(), fault.as_bytes(), "at {write} and {report}");
+        }
+        Ok(())
+    }
+}

@@ -1,15 +1,15 @@
 -- What a part announces puts the mirrors of its boundary right.
-use Rattle.std.proofs.Common.{◌≡◌, ℕ, zero, suc, ◌+◌, ◌-◌, ◌<◌, ◌≤◌, Bool, true, false, not, List, [], ◌∷◌, length, map, get_or, refl, sym, ap, ◌∙◌, arith, eqb-true}
-use Rattle.std.specs.Prelude.{◌==◌, ◌||◌, ◌&&◌, slice_index, slice_range, filter, All, Option, None, if◌then◌else◌}
-use Rattle.std.specs.List.{AllByRecursion, list_any}
+use Rattle.std.proofs.Common.{◌≡◌, ℕ, zero, suc, ◌+◌, ◌-◌, ◌<◌, ◌≤◌, Bool, true, false, not, List, [], ◌∷◌, length, map, refl, sym, ap, ◌∙◌, arith, eqb-true}
+use Rattle.std.specs.Prelude.{◌==◌, ◌||◌, ◌&&◌, slice_index, slice_range, filter, All, None, if◌then◌else◌}
+use Rattle.std.specs.List.{AllByRecursion}
 use Rattle.std.proofs.lemmas.Grind.{same_number_lists}
 use Rattle.std.proofs.lemmas.List.{get_or-map, length-map}
 use Rattle.std.proofs.lemmas.Bool.Decides.{nat_tests}
 use Rattle.px_base.specs.declared.graph.Part.{Part}
 use Rattle.px_base.specs.declared.wire.Update.{Update}
 use Rattle.std.proofs.lemmas.List.Elements.{recursion_from_All, All-from_recursion}
-use Rattle.px_base.specs.Values.{IsValue, is_listed, by_position}
-use Rattle.px_base.specs.Worlds.{Refusal, first_foreign, CarriesValues}
+use Rattle.px_base.specs.Values.{IsValue, is_listed}
+use Rattle.px_base.specs.Worlds.{first_foreign, CarriesValues}
 use Rattle.px_base.specs.ValueSteps.{newest_value, updated_mirrors, has_changed, announcements}
 use Rattle.px_base.proofs.Positions.{length_by_position, at_position}
 use Rattle.phoenix_cli.proofs.Ranges.{at_range}
@@ -87,18 +87,18 @@ mirrors_told all part x z mirrors bound =
     same_number_lists (updated_mirrors mirrors updates old) (map (slice_index z) mirrors)
     (length_by_position (length old) (λ k. newest_value updates (slice_index mirrors k) (slice_index old k)) ∙ sized ∙ sym (length-map mirrors (slice_index z)))
     (λ k below.
-        let here : k < length old = rw (length_by_position (length old) (λ j. newest_value updates (slice_index mirrors j) (slice_index old j))) at below in
-        let inside : k < length mirrors = omega (arith, sized) in
-        let m : ℕ = slice_index mirrors k in
-        let bounds : IsAtBoundary part m = bound k 0 inside in
-        let place : m - part.low < part.high - part.low = omega (arith, bounds.low, bounds.high) in
-        let back : part.low + (m - part.low) ≡ m = omega (arith, bounds.low) in
-        let had : slice_index old k ≡ slice_index (slice_range x part.low part.high) (m - part.low) =
-        get_or-map (slice_index x) mirrors k 0 0 inside ∙ sym (at_range x part.low part.high (m - part.low) 0 place ∙ ap (slice_index x) back) in
-        at_position (length old) (λ j. newest_value updates (slice_index mirrors j) (slice_index old j)) k 0 here
-        ∙ newest_is all part (slice_range x part.low part.high) (slice_range z part.low part.high) m (slice_index old k) bounds.listed had
-        ∙ at_range z part.low part.high (m - part.low) 0 place ∙ ap (slice_index z) back
-        ∙ sym (get_or-map (slice_index z) mirrors k 0 0 inside))
+    let here : k < length old = rw (length_by_position (length old) (λ j. newest_value updates (slice_index mirrors j) (slice_index old j))) at below in
+    let inside : k < length mirrors = omega (arith, sized) in
+    let m : ℕ = slice_index mirrors k in
+    let bounds : IsAtBoundary part m = bound k 0 inside in
+    let place : m - part.low < part.high - part.low = omega (arith, bounds.low, bounds.high) in
+    let back : part.low + (m - part.low) ≡ m = omega (arith, bounds.low) in
+    let had : slice_index old k ≡ slice_index (slice_range x part.low part.high) (m - part.low) =
+    get_or-map (slice_index x) mirrors k 0 0 inside ∙ sym (at_range x part.low part.high (m - part.low) 0 place ∙ ap (slice_index x) back) in
+    at_position (length old) (λ j. newest_value updates (slice_index mirrors j) (slice_index old j)) k 0 here
+    ∙ newest_is all part (slice_range x part.low part.high) (slice_range z part.low part.high) m (slice_index old k) bounds.listed had
+    ∙ at_range z part.low part.high (m - part.low) 0 place ∙ ap (slice_index z) back
+    ∙ sym (get_or-map (slice_index z) mirrors k 0 0 inside))
 
 -- ---- what may be announced
 

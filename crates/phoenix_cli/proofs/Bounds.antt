@@ -1,14 +1,13 @@
 -- Every consistent list stays below the list that the workers hold, and a list that a renewal leaves as it is is consistent.
-use Rattle.std.proofs.Common.{◌≡◌, ℕ, zero, suc, ◌+◌, ◌-◌, ◌<◌, ◌≤◌, min, Bool, true, false, List, [], ◌∷◌, length, map, get_or, refl, sym, ap, ◌∙◌, arith}
-use Rattle.std.specs.Prelude.{slice_index, fold, All}
+use Rattle.std.proofs.Common.{◌≡◌, ℕ, ◌<◌, ◌≤◌, min, List, [], ◌∷◌, length, map, sym, ap, ◌∙◌, arith}
+use Rattle.std.specs.Prelude.{slice_index, All}
 use Rattle.std.specs.List.{AllByRecursion}
-use Rattle.std.proofs.lemmas.List.Elements.{recursion_from_All, All-from_recursion}
+use Rattle.std.proofs.lemmas.List.Elements.{recursion_from_All}
 use Rattle.px_base.specs.declared.graph.Read.{Read}
-use Rattle.px_base.specs.declared.TheConstants.{TOP}
 use Rattle.px_base.specs.declared.program.Along.TheVariants.{Plus}
-use Rattle.px_base.specs.Values.{IsValue, IsValueList, by_position}
+use Rattle.px_base.specs.Values.{IsValueList}
 use Rattle.px_base.specs.Graphs.{row_at}
-use Rattle.px_base.specs.Rules.{edge_value, least, pull}
+use Rattle.px_base.specs.Rules.{edge_value, pull}
 use Rattle.px_base.specs.Answers.{IsConsistent, IsGreatestConsistent}
 use Rattle.px_base.specs.Programs.{bfs}
 use Rattle.px_base.proofs.Positions.{length_by_position, at_position}

@@ -1,11 +1,11 @@
 -- Two parts: each vertex belongs to one of them, and each mirror of the one is in the boundary of the other.
-use Rattle.std.proofs.Common.{◌≡◌, ℕ, zero, suc, ◌+◌, ◌-◌, ◌<◌, ◌≤◌, Bool, true, false, not, List, [], ◌∷◌, length, map, get_or, refl, sym, ap, ◌∙◌, arith, eqb-true, eq-eqb, zero-add, add-zero}
-use Rattle.std.specs.Prelude.{◌==◌, ◌||◌, ◌&&◌, slice_index, slice_range, filter, All, if◌then◌else◌}
+use Rattle.std.proofs.Common.{◌≡◌, ℕ, zero, suc, ◌+◌, ◌-◌, ◌<◌, ◌≤◌, Bool, true, false, not, List, [], ◌∷◌, length, get_or, refl, ◌∙◌, arith, eq-eqb, zero-add}
+use Rattle.std.specs.Prelude.{◌==◌, ◌||◌, ◌&&◌, slice_index, filter, All, if◌then◌else◌}
 use Rattle.std.specs.List.{AllByRecursion, list_any, range_with_len}
 use Rattle.std.proofs.lemmas.Bool.Decides.{nat_tests}
 use Rattle.std.proofs.lemmas.List.Folds.{list_any_at}
 use Rattle.std.proofs.lemmas.List.FromFn.{length-range_with_len, get_or-range_with_len}
-use Rattle.std.proofs.lemmas.List.Elements.{recursion_from_All, All-from_recursion}
+use Rattle.std.proofs.lemmas.List.Elements.{All-from_recursion}
 use Rattle.px_base.specs.declared.graph.Read.{Read}
 use Rattle.px_base.specs.Values.{is_listed, positions_below}
 use Rattle.px_base.specs.Parts.{IsCuts, part_count, low_of, high_of, is_within, is_master, is_mirror, is_routed, reads_from, part_rows, mirrors_of, boundary_of, part_of}
@@ -126,7 +126,7 @@ boundary_mirrored rows cuts i j h = All-from_recursion (λ v. is_listed (mirrors
     (each_filtered (λ v. is_listed (mirrors_of rows cuts j) v ≡ true) (is_routed rows cuts) (range_with_len (low_of cuts i) (high_of cuts i - low_of cuts i))
     (each_in_range (λ v. is_routed rows cuts v ≡ true → is_listed (mirrors_of rows cuts j) v ≡ true) (low_of cuts i) (high_of cuts i - low_of cuts i)
     (λ v low high reads.
-        let mine : is_master cuts i v ≡ true = h.apart v low (omega (arith, h.rises)) in
-        let none : is_mirror rows cuts i v ≡ false = no_mirror (is_master cuts i v) (list_any (reads_from v) (part_rows rows cuts i)) mine in
-        let some : is_mirror rows cuts j v ≡ true = h.either (λ k. is_mirror rows cuts k v) (rw h.two at reads) none in
-        listed_filter (is_mirror rows cuts j) (positions_below (length rows)) v ∙ (rw (listed_range 0 (length rows) v (omega arith) (omega (arith, h.inside, h.rises)), some) refl))))
+    let mine : is_master cuts i v ≡ true = h.apart v low (omega (arith, h.rises)) in
+    let none : is_mirror rows cuts i v ≡ false = no_mirror (is_master cuts i v) (list_any (reads_from v) (part_rows rows cuts i)) mine in
+    let some : is_mirror rows cuts j v ≡ true = h.either (λ k. is_mirror rows cuts k v) (rw h.two at reads) none in
+    listed_filter (is_mirror rows cuts j) (positions_below (length rows)) v ∙ (rw (listed_range 0 (length rows) v (omega arith) (omega (arith, h.inside, h.rises)), some) refl))))

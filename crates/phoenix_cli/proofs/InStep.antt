@@ -1,7 +1,6 @@
 -- Rounds of two workers: what they hold between two rounds, what a round makes of it, and when it is the answer.
-use Rattle.std.proofs.Common.{◌≡◌, ℕ, zero, suc, ◌+◌, ◌-◌, ◌<◌, ◌≤◌, Bool, true, false, not, List, [], ◌∷◌, ◌++◌, length, map, take, drop, get_or, refl, sym, ap, subst, ◌∙◌, arith, inl, inr, append_assoc, zero-add}
-use Rattle.std.specs.Prelude.{◌==◌, ◌||◌, ◌&&◌, ◌⊎◌, nat_lt, slice_index, slice_range, sum, All, None, Result, Ok, Err}
-use Rattle.std.specs.List.{list_any}
+use Rattle.std.proofs.Common.{◌≡◌, ℕ, suc, ◌+◌, ◌-◌, ◌<◌, ◌≤◌, Bool, true, false, List, [], ◌∷◌, ◌++◌, length, map, take, drop, get_or, refl, sym, ap, ◌∙◌, arith, inl, inr, zero-add}
+use Rattle.std.specs.Prelude.{◌&&◌, ◌⊎◌, nat_lt, slice_index, slice_range, sum, All, None, Result, Ok}
 use Rattle.std.proofs.lemmas.Grind.{same_number_lists, common_steps}
 use Rattle.std.proofs.lemmas.Bool.{cases_lt}
 use Rattle.std.proofs.lemmas.Bool.Decides.{nat_tests}
@@ -14,7 +13,7 @@ use Rattle.px_base.specs.declared.graph.Part.{Part}
 use Rattle.px_base.specs.declared.wire.Update.{Update}
 use Rattle.px_base.specs.declared.wire.Order.TheVariants.{Step}
 use Rattle.px_base.specs.declared.wire.Answer.TheVariants.{Stepped}
-use Rattle.px_base.specs.Values.{IsValue, IsValueList, is_listed, by_position, positions_below}
+use Rattle.px_base.specs.Values.{IsValue, IsValueList, is_listed, positions_below}
 use Rattle.px_base.specs.Graphs.{RowsFit}
 use Rattle.px_base.specs.Answers.{IsConsistent, IsGreatestConsistent}
 use Rattle.px_base.specs.Parts.{IsCuts, PartFits, part_of, low_of, high_of, mirrors_of}
@@ -303,9 +302,9 @@ work_falls rows starts cuts first second to_first to_second round job s going =
     (share_falls (share cuts 0 s.now) (share cuts 0 next) sized_first below_first) (share_falls (share cuts 1 s.now) (share cuts 1 next) sized_second below_second)
     (fresh_is_early s.epoch)
     (λ first_kept second_kept later.
-        let one : is_still (changes rows starts cuts 0 s.now) (told_by rows starts cuts 0 s.epoch s.now) ≡ true = still_part rows starts cuts 0 s.epoch s.now sized_first later first_kept in
-        let two : is_still (changes rows starts cuts 1 s.now) (told_by rows starts cuts 1 s.epoch s.now) ≡ true = still_part rows starts cuts 1 s.epoch s.now sized_second later second_kept in
-        both_still (is_still (changes rows starts cuts 0 s.now) (told_by rows starts cuts 0 s.epoch s.now)) (is_still (changes rows starts cuts 1 s.now) (told_by rows starts cuts 1 s.epoch s.now)) one two going))
+    let one : is_still (changes rows starts cuts 0 s.now) (told_by rows starts cuts 0 s.epoch s.now) ≡ true = still_part rows starts cuts 0 s.epoch s.now sized_first later first_kept in
+    let two : is_still (changes rows starts cuts 1 s.now) (told_by rows starts cuts 1 s.epoch s.now) ≡ true = still_part rows starts cuts 1 s.epoch s.now sized_second later second_kept in
+    both_still (is_still (changes rows starts cuts 0 s.now) (told_by rows starts cuts 0 s.epoch s.now)) (is_still (changes rows starts cuts 1 s.now) (told_by rows starts cuts 1 s.epoch s.now)) one two going))
 
 -- ---- a round, as the code makes it
 

@@ -1,15 +1,13 @@
 -- Stretches of lists, and what a part knows of a list of values by position.
-use Rattle.std.proofs.Common.{◌≡◌, ℕ, zero, suc, add-one, add-zero, zero-add, ◌+◌, ◌-◌, ◌<◌, ◌≤◌, Bool, true, false, not, List, [], ◌∷◌, length, map, take, drop, get_or, refl, sym, ap, ◌∙◌, arith, eqb-true}
-use Rattle.std.specs.Prelude.{◌==◌, ◌||◌, ◌&&◌, nat_le, nat_lt, slice_index, slice_range, if◌then◌else◌}
-use Rattle.std.specs.List.{list_any, position_or_len}
+use Rattle.std.proofs.Common.{◌≡◌, ℕ, suc, ◌+◌, ◌-◌, ◌<◌, ◌≤◌, Bool, true, false, not, List, [], ◌∷◌, length, map, drop, get_or, refl, sym, ap, ◌∙◌, arith, eqb-true}
+use Rattle.std.specs.Prelude.{◌==◌, ◌||◌, slice_index, slice_range, if◌then◌else◌}
 use Rattle.std.proofs.lemmas.Grind.{same_number_lists}
 use Rattle.std.proofs.lemmas.Bool.Decides.{nat_tests}
 use Rattle.std.proofs.lemmas.List.{get_or-take, get_or-drop, length-take-le, length-drop}
 use Rattle.px_base.specs.declared.graph.Part.{Part}
-use Rattle.px_base.specs.Values.{is_listed, place_of, by_position}
+use Rattle.px_base.specs.Values.{is_listed, place_of}
 use Rattle.px_base.specs.Parts.{is_within, is_known}
 use Rattle.px_base.specs.Pulls.{known_value}
-use Rattle.px_base.proofs.Positions.{length_by_position, at_position}
 
 -- ---- stretches
 

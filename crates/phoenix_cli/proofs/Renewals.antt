@@ -1,12 +1,12 @@
 -- One round of all workers is one renewal of the whole list: each vertex takes the least of its value and its pull.
-use Rattle.std.proofs.Common.{◌≡◌, ℕ, zero, suc, ◌+◌, ◌-◌, ◌<◌, ◌≤◌, min, Bool, true, false, List, [], ◌∷◌, length, map, take, drop, get_or, refl, sym, ap, ◌∙◌, arith}
-use Rattle.std.specs.Prelude.{slice_index, slice_range, All}
+use Rattle.std.proofs.Common.{◌≡◌, ℕ, ◌+◌, ◌-◌, ◌<◌, ◌≤◌, min, true, List, [], ◌∷◌, length, map, refl, sym, ap, ◌∙◌, arith}
+use Rattle.std.specs.Prelude.{slice_index, slice_range}
 use Rattle.std.specs.List.{AllByRecursion}
 use Rattle.std.proofs.lemmas.List.Elements.{recursion_from_All}
 use Rattle.px_base.specs.declared.graph.Read.{Read}
 use Rattle.px_base.specs.declared.graph.Part.{Part}
 use Rattle.px_base.specs.declared.program.Along.TheVariants.{Plus}
-use Rattle.px_base.specs.Values.{IsValue, by_position}
+use Rattle.px_base.specs.Values.{by_position}
 use Rattle.px_base.specs.Graphs.{row_at}
 use Rattle.px_base.specs.Rules.{edge_value, least, pull}
 use Rattle.px_base.specs.Parts.{PartFits, is_known, part_of, low_of, high_of}
@@ -59,12 +59,12 @@ masters_renewed rows starts x cuts i fits sized inside =
     (rw (length_by_position (length rows) (renewed_at rows starts x)) inside)
     (length_by_position (length part.rows) _ ∙ count)
     (λ k below.
-        let inner : k < length part.rows = omega arith in
-        let v : ℕ = low + k in
-        let pulled : master_pull part bfs_core (slice_range x low high) (map (slice_index x) part.mirrors) k ≡ pull bfs rows starts x v =
-        master_gathers part x k fits inner ∙ ap (λ s. gathered (slice_index x) s (row_at part.rows k)) (at_range starts low high k 0 below)
-        ∙ ap (gathered (slice_index x) (slice_index starts v)) (at_range rows low high k [] below) in
-        at_position (length part.rows) (λ j. renewed_value bfs_core (slice_index (slice_range x low high) j) (master_pull part bfs_core (slice_range x low high) (map (slice_index x) part.mirrors) j)) k 0 inner
-        ∙ ap (λ own. min own (master_pull part bfs_core (slice_range x low high) (map (slice_index x) part.mirrors) k)) (at_range x low high k 0 below)
-        ∙ ap (min (slice_index x v)) pulled
-        ∙ sym (at_position (length rows) (renewed_at rows starts x) v 0 (omega arith)))
+    let inner : k < length part.rows = omega arith in
+    let v : ℕ = low + k in
+    let pulled : master_pull part bfs_core (slice_range x low high) (map (slice_index x) part.mirrors) k ≡ pull bfs rows starts x v =
+    master_gathers part x k fits inner ∙ ap (λ s. gathered (slice_index x) s (row_at part.rows k)) (at_range starts low high k 0 below)
+    ∙ ap (gathered (slice_index x) (slice_index starts v)) (at_range rows low high k [] below) in
+    at_position (length part.rows) (λ j. renewed_value bfs_core (slice_index (slice_range x low high) j) (master_pull part bfs_core (slice_range x low high) (map (slice_index x) part.mirrors) j)) k 0 inner
+    ∙ ap (λ own. min own (master_pull part bfs_core (slice_range x low high) (map (slice_index x) part.mirrors) k)) (at_range x low high k 0 below)
+    ∙ ap (min (slice_index x v)) pulled
+    ∙ sym (at_position (length rows) (renewed_at rows starts x) v 0 (omega arith)))

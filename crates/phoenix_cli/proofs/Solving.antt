@@ -1,13 +1,12 @@
 -- How an input that was read, and then solved for, ends.
-use Rattle.std.proofs.Common.{◌≡◌, ℕ, zero, suc, ◌<◌, Bool, true, false, cond, not, List, [], ◌∷◌, length, get_or, refl, sym, ap, subst, ◌∙◌, arith, eqb-true, eq-eqb, inl, inr, ◌||◌}
-use Rattle.std.specs.Prelude.{◌==◌, Option, Some, None, Result, Ok, Err, IfSome, IsTrue, IsOk, Contains, find, slice_index_or}
-use Rattle.std.specs.Io.KnownBytes.{Keeps, Appends, IsAtEnd}
+use Rattle.std.proofs.Common.{◌≡◌, ℕ, suc, Bool, true, false, cond, not, List, [], ◌∷◌, get_or, refl, sym, ap, ◌∙◌, arith, eqb-true, eq-eqb, inl, inr, ◌||◌}
+use Rattle.std.specs.Prelude.{◌==◌, Option, Some, None, Result, Ok, Err, IsTrue, Contains}
+use Rattle.std.specs.Io.KnownBytes.{Keeps, Appends}
 use Rattle.std.proofs.lemmas.List.Folds.{list_any_at}
 use Rattle.px_base.specs.declared.graph.EdgeList.{EdgeList}
 use Rattle.px_base.specs.Values.{is_listed, place_of}
 use Rattle.px_base.specs.Lines.{IdEdge, ends_of, IsEdgeListOf}
 use Rattle.px_base.specs.Inputs.{InputFault, input_of, input_limits}
-use Rattle.px_base.specs.Starts.{first_unknown, positions_of}
 use Rattle.px_base.specs.AnswerTexts.{IsAnswerOn, IsAnswerText}
 use Rattle.px_base.specs.Programs.{bfs}
 use Rattle.px_io.specs.Causes.{AppendsPrefix}
@@ -18,8 +17,8 @@ use Rattle.phoenix_cli.specs.declared.stop.Stop.{Stop}
 use Rattle.phoenix_cli.specs.declared.stop.Stop.TheVariants as stop
 use Rattle.phoenix_cli.specs.Endings.{Ending, bad_input, unknown_source, answered, ending_of, ending_of_edges, status_of, IsEndingText}
 use Rattle.phoenix_cli.specs.Stops.{fault_status, stop_status}
-use Rattle.phoenix_cli.specs.Runs.{is_decided, IsRunOf, WritesAnswer, WritesPrefix}
-use Rattle.phoenix_cli.specs.Solutions.{EndsAs, IsSolution}
+use Rattle.phoenix_cli.specs.Runs.{is_decided, IsRunOf}
+use Rattle.phoenix_cli.specs.Solutions.{IsSolution}
 
 -- ---- the ids of a list
 

@@ -1,7 +1,6 @@
 -- How `run` ends on an input, in the order in which faults are looked for: the input, then its sources.
-use Rattle.std.specs.Prelude.{ℕ, List, Option, Some, None, Result, Ok, Err, IsTrue}
+use Rattle.std.specs.Prelude.{ℕ, List, Some, None, Result, Ok, Err}
 use Rattle.px_base.specs.declared.program.Program.{Program}
-use Rattle.px_base.specs.Values.{is_listed}
 use Rattle.px_base.specs.Lines.{IdEdge, ends_of}
 use Rattle.px_base.specs.Starts.{uses_weight, first_unknown}
 use Rattle.px_base.specs.Inputs.{InputFault, bad_line, too_many_edges, too_long, too_many_vertices, input_limits, input_of}

@@ -1,5 +1,5 @@
 -- When rounds of workers come to an end.
-use Rattle.std.specs.Prelude.{ℕ, Bool, not, ◌&&◌, ◌==◌, List, length}
+use Rattle.std.specs.Prelude.{Bool, not, ◌&&◌, ◌==◌, List, length}
 use Rattle.px_base.specs.declared.wire.Update.{Update}
 
 -- a worker that changed nothing, and sends nothing

@@ -58,9 +58,13 @@ fn stepped<R: Threads + Sync>(
         updates,
     };
     match world.step(rt, &order) {
-        Ok(Answer::Stepped {
-            changed, updates, ..
-        }) => Ok(Sent { changed, updates }),
+        Ok(
+            Answer::Stepped {
+                changed,
+                updates,
+                ..
+            },
+        ) => Ok(Sent { changed, updates }),
         Ok(Answer::Reported { .. }) => unreachable!(),
         Err(StepFault::Memory) => Err(Memory),
         Err(StepFault::WrongEpoch { .. }) => unreachable!(),

@@ -1,12 +1,9 @@
-use Rattle.std.proofs.Common.{◌≡◌, ℕ, List, [], length, refl, sym, ◌∙◌, ap, ◌++◌}
-use Rattle.std.specs.Prelude.{Ok}
+use Rattle.std.proofs.Common.{◌≡◌, length, refl, sym, ◌∙◌, ◌++◌}
 use Rattle.std.proofs.lemmas.Result.{IfOk-weaker}
 use Rattle.px_base.specs.Answers.{IsGreatestConsistent}
 use Rattle.px_base.specs.Programs.{bfs}
 use Rattle.px_base.specs.Worlds.{masters_of}
-use Rattle.px_base.specs.declared.graph.Part.{Part}
-use Rattle.px_base.specs.declared.graph.Read.{Read}
-use Rattle.phoenix_cli.proofs.InStep.{IsHalvedJob, AreInStep, IsRound, job_is, opened, first_steps, second_steps, round_is, round_kept, round_falls, round_ends}
+use Rattle.phoenix_cli.proofs.InStep.{IsHalvedJob, job_is, opened, first_steps, second_steps, round_is, round_kept, round_falls, round_ends}
 use Rattle.phoenix_cli.proofs.rounds.solved_in_rounds.Goals as goal
 
 pub loop-to_second-init : goal.loop-to_second-init

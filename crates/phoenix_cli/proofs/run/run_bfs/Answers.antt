@@ -1,4 +1,4 @@
-use Rattle.std.proofs.Common.{◌≡◌, ap}
+use Rattle.std.proofs.Common.{ap}
 use Rattle.std.specs.Prelude.{Err}
 use Rattle.phoenix_cli.proofs.Solving.{run_stopped, run_written, run_failed, run_wanted}
 use Rattle.phoenix_cli.proofs.run.run_bfs.Goals as goal

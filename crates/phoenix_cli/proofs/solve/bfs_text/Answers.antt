@@ -1,5 +1,4 @@
-use Rattle.std.proofs.Common.{◌≡◌, sym, ◌∙◌, ap}
-use Rattle.std.specs.Prelude.{length}
+use Rattle.std.proofs.Common.{sym, ◌∙◌, ap}
 use Rattle.px_base.specs.Values.{is_listed}
 use Rattle.phoenix_cli.proofs.Solving.{source_stops, text_found}
 use Rattle.phoenix_cli.proofs.solve.bfs_text.Goals as goal

@@ -1,4 +1,4 @@
-use Rattle.std.proofs.Common.{◌≡◌, List, [], ◌∷◌, ◌++◌, append_assoc, ◌∙◌, ap, refl}
+use Rattle.std.proofs.Common.{[], ◌∷◌, ◌++◌, append_assoc, ◌∙◌, ap, refl}
 use Rattle.std.specs.Prelude.{decimal}
 use Rattle.px_base.specs.Text.{GrowsByPrefix, answer_line, value_text}
 use Rattle.phoenix_cli.proofs.GrowingText.{begins, on_any_err}

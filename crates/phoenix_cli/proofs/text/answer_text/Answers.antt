@@ -1,4 +1,4 @@
-use Rattle.std.proofs.Common.{◌≡◌, ◌++◌, ◌∙◌, ap, sym, append_assoc, length, arith}
+use Rattle.std.proofs.Common.{◌++◌, ◌∙◌, ap, sym, append_assoc, length}
 use Rattle.std.specs.Prelude.{flat_map, slice_index, ℕ, List}
 use Rattle.px_base.specs.Values.{positions_below}
 use Rattle.px_base.specs.Text.{GrowsByPrefix, answer_line, answer_text}

@@ -63,8 +63,16 @@ mod tests {
         for most in [1, 5, 4096] {
             let ran = run_row(rt, alloc, words, input.as_bytes(), most)?;
             assert_eq!(rt; ran.status, status, "{words:?} over {input:?} by {most}");
-            assert_eq!(rt; ran.answer.as_slice(), answer.as_bytes(), "{words:?} over {input:?} by {most}");
-            assert_eq!(rt; ran.fault.as_slice(), fault.as_bytes(), "{words:?} over {input:?} by {most}");
+            assert_eq!(rt;
+                ran.answer.as_slice(),
+                answer.as_bytes(),
+                "{words:?} over {input:?} by {most}"
+            );
+            assert_eq!(rt;
+                ran.fault.as_slice(),
+                fault.as_bytes(),
+                "{words:?} over {input:?} by {most}"
+            );
         }
         Ok(())
     }
@@ -142,10 +150,23 @@ mod tests {
             ("1", "7\n", 3, "phoenix: line 1: vertex missing\n"),
             ("1", "7", 3, "phoenix: line 1: vertex missing\n"),
             ("1", "1 2\n3\n", 3, "phoenix: line 2: vertex missing\n"),
-            ("1", "1 2\n\n# x\n3 -\n4\n", 3, "phoenix: line 4: bad vertex\n"),
+            (
+                "1",
+                "1 2\n\n# x\n3 -\n4\n",
+                3,
+                "phoenix: line 4: bad vertex\n",
+            ),
         ];
         for (id, input, status, fault) in rows {
-            assert_row(&rt, rt.alloc(), &["run", "bfs", id], input, status, "", fault)?;
+            assert_row(
+                &rt,
+                rt.alloc(),
+                &["run", "bfs", id],
+                input,
+                status,
+                "",
+                fault,
+            )?;
         }
         Ok(())
     }
@@ -210,7 +231,15 @@ mod tests {
             ("1", FOUR, 1, 0, 7, "", "phoenix: write fault\n"),
             ("1", FOUR, 2, 0, 7, "1 0\n", "phoenix: write fault\n"),
             ("1", FOUR, 3, 0, 7, "1 0\n2 1\n", "phoenix: write fault\n"),
-            ("1", FOUR, 4, 0, 7, "1 0\n2 1\n3 1\n", "phoenix: write fault\n"),
+            (
+                "1",
+                FOUR,
+                4,
+                0,
+                7,
+                "1 0\n2 1\n3 1\n",
+                "phoenix: write fault\n",
+            ),
             ("1", FOUR, 5, 0, 0, "1 0\n2 1\n3 1\n4 2\n", ""),
             ("1", FOUR, 2, 1, 7, "1 0\n", ""),
             ("1", "1 x\n", 0, 2, 3, "", "phoe"),
@@ -220,8 +249,16 @@ mod tests {
         for (id, input, write, report, status, answer, fault) in rows {
             let ran = run_failing(&rt, rt.alloc(), id, input, (0, write, report))?;
             assert_eq!(rt; ran.status, status, "at {write} and {report}");
-            assert_eq!(rt; ran.answer.as_slice(), answer.as_bytes(), "at {write} and {report}");
-            assert_eq!(rt; ran.fault.as_slice(), fault.as_bytes(), "at {write} and {report}");
+            assert_eq!(rt;
+                ran.answer.as_slice(),
+                answer.as_bytes(),
+                "at {write} and {report}"
+            );
+            assert_eq!(rt;
+                ran.fault.as_slice(),
+                fault.as_bytes(),
+                "at {write} and {report}"
+            );
         }
         Ok(())
     }

@@ -70,8 +70,8 @@ many_more lines line e old read is full = one_more_line old.weighted lines line 
 -- an edge that is added, or why it isn't
 refused_more : (lines : List (List ℕ)) (line : List ℕ) (e : IdEdge) (old : ReadLines) (fault : EdgeFault) → AreRead lines old → line_of old.weighted line ≡ an_edge e → RefusesEdge (length old.weights.items) fault →
     IsLineFault old.weighted (lines ++ line ∷ []) fault
-refused_more lines line e old TooManyEdges read is h = record { said = many_more lines line e old read is h; own = λ x. cc }
-refused_more lines line e old Memory read is h = record { said = tt; own = λ x. cc }
+refused_more lines line e old TooManyEdges read is h = record { said = many_more lines line e old read is h; own = λ x. cc; early = λ x. cc }
+refused_more lines line e old Memory read is h = record { said = tt; own = λ x. cc; early = λ x. cc }
 refused_more lines line e old (Missing n) read is h = absurd h
 refused_more lines line e old (BadId n) read is h = absurd h
 refused_more lines line e old (BadWeight n) read is h = absurd h
@@ -100,7 +100,7 @@ says_stays w lines more Memory h = tt
 pub fault_longer : (w : Bool) (text more : List ℕ) (fault : EdgeFault) → IsLineFault w (ended_lines text) fault → IsLineFault w (ended_lines (text ++ more)) fault
 fault_longer w text more fault h =
     let b : BeginsLines (ended_lines text) (ended_lines (text ++ more)) = ended_begin text more in
-    record { said = subst (λ lines. Says (Err fault) (outcome w lines)) (sym b.is) (says_stays w (ended_lines text) b.more fault h.said); own = h.own }
+    record { said = subst (λ lines. Says (Err fault) (outcome w lines)) (sym b.is) (says_stays w (ended_lines text) b.more fault h.said); own = h.own; early = h.early }
 
 -- ---- one byte more
 

@@ -1,6 +1,6 @@
 -- What the bytes that were taken say of the whole input.
 use Rattle.std.proofs.Common.{◌≡◌, ℕ, ◌+◌, ◌-◌, ◌*◌, ◌≤◌, ◌<◌, ◌^◌, Bool, true, false, cond, List, [], ◌∷◌, ◌++◌, length, map, take, drop, refl, sym, ap, ◌∙◌, subst, arith, append-nil, append_assoc, length-append}
-use Rattle.std.specs.Prelude.{Option, Some, None, Result, Ok, Err, nat_lt}
+use Rattle.std.specs.Prelude.{◌≢◌, Option, Some, None, Result, Ok, Err, nat_lt}
 use Rattle.std.specs.Io.KnownBytes.{Consumes, IsAtEnd, Keeps}
 use Rattle.std.proofs.KnownBytes.{Consumes-nil, Consumes-trans, Consumes-kept}
 use Rattle.std.proofs.lemmas.Bool.{le-ltb, lt-ltb, ltb-true, ltb-false}
@@ -13,7 +13,7 @@ use Rattle.edge_reader.specs.declared.fault.EdgeFault.{EdgeFault}
 use Rattle.edge_reader.specs.declared.fault.EdgeFault.TheVariants.{Missing, BadId, BadWeight, TooManyVertices, TooManyEdges, TooLong, ReadFault, Memory}
 use Rattle.edge_reader.specs.declared.lines.ReadLines.{ReadLines}
 use Rattle.edge_reader.specs.declared.scan.Scan.{Scan}
-use Rattle.edge_reader.specs.Readings.{Says, IsReadingOf}
+use Rattle.edge_reader.specs.Readings.{Says, IsReadingOf, HasNoFault}
 use Rattle.edge_reader.specs.Lists.{AreRead, IsLineFault, Adds, IsFed, FeedsOn, open_line, newline_pieces, AreAllRead, ReadsAll}
 use Rattle.edge_reader.proofs.EdgesWithin.{pieces_say}
 use Rattle.edge_reader.proofs.Texts.{ended_begin, ended_begin_all, BeginsLines, pieces_split}
@@ -70,16 +70,46 @@ cut_short w front more edges full some e =
 
 -- ---- readings
 
-pub reading_of_fault : (w : Bool) (left rest : Option (List ℕ)) (taken : List ℕ) (fault : EdgeFault) → Consumes left rest taken → ((more : List ℕ) → Says (Err fault) (input_of input_limits w (taken ++ more))) → IsReadingOf w left rest (Err fault)
-reading_of_fault w None rest taken fault lost says = record { bytes = taken ++ []; told = tt; taken = taken; lost = lost; said = says []; ended = λ h. cc }
-reading_of_fault w (Some xs) None taken fault lost says = absurd lost
-reading_of_fault w (Some xs) (Some ys) taken fault lost says = record { bytes = xs; told = refl; taken = taken; lost = lost; said = subst (λ l. Says (Err fault) (input_of input_limits w l)) (sym lost) (says ys); ended = λ h. cc }
+-- these bytes were taken before this fault was the answer: the vertices weren't counted, and no other fault was met before
+-- one of the source
+pub record IsFaultAfter (w : Bool) (taken : List ℕ) (fault : EdgeFault) : Type 0 where
+  pub early : fault ≢ TooManyVertices
+  pub met : fault ≡ ReadFault → HasNoFault w taken
+
+same_fault : (fault what : EdgeFault) (result : Result EdgeList EdgeFault) → result ≡ Err fault → result ≡ Err what → fault ≡ what
+same_fault fault what result is e = cc (is, e)
+
+pub reading_of_fault : (w : Bool) (left rest : Option (List ℕ)) (taken : List ℕ) (fault : EdgeFault) → IsFaultAfter w taken fault → Consumes left rest taken → ((more : List ℕ) → Says (Err fault) (input_of input_limits w (taken ++ more))) →
+    IsReadingOf w left rest (Err fault)
+reading_of_fault w None rest taken fault after lost says =
+    record { bytes = taken ++ []; told = tt; taken = taken; lost = lost; said = says []; ended = λ h. cc; counted = λ e. absurd (after.early (same_fault fault TooManyVertices (Err fault) refl e)); met = λ e. after.met (same_fault fault ReadFault (Err fault) refl e) }
+reading_of_fault w (Some xs) None taken fault after lost says = absurd lost
+reading_of_fault w (Some xs) (Some ys) taken fault after lost says = record {
+  bytes = xs;
+  told = refl;
+  taken = taken;
+  lost = lost;
+  said = subst (λ l. Says (Err fault) (input_of input_limits w l)) (sym lost) (says ys);
+  ended = λ h. cc;
+  counted = λ e. absurd (after.early (same_fault fault TooManyVertices (Err fault) refl e));
+  met = λ e. after.met (same_fault fault ReadFault (Err fault) refl e);
+}
 
 -- at the end of the input
-pub reading_at_end : (w : Bool) (left rest : Option (List ℕ)) (taken : List ℕ) (result : Result EdgeList EdgeFault) → Consumes left rest taken → IsAtEnd rest → Says result (input_of input_limits w taken) → IsReadingOf w left rest result
-reading_at_end w None rest taken result lost end says = record { bytes = taken; told = tt; taken = taken; lost = lost; said = says; ended = λ h. end }
-reading_at_end w (Some xs) None taken result lost end says = absurd lost
-reading_at_end w (Some xs) (Some ys) taken result lost end says = record { bytes = taken; told = lost ∙ ap (λ l. taken ++ l) end ∙ append-nil taken; taken = taken; lost = lost; said = says; ended = λ h. end }
+pub reading_at_end : (w : Bool) (left rest : Option (List ℕ)) (taken : List ℕ) (result : Result EdgeList EdgeFault) → (result ≡ Err ReadFault → ⊥) → Consumes left rest taken → IsAtEnd rest → Says result (input_of input_limits w taken) → IsReadingOf w left rest result
+reading_at_end w None rest taken result own lost end says =
+    record { bytes = taken; told = tt; taken = taken; lost = lost; said = says; ended = λ h. end; counted = λ e. end; met = λ e. absurd (own e) }
+reading_at_end w (Some xs) None taken result own lost end says = absurd lost
+reading_at_end w (Some xs) (Some ys) taken result own lost end says = record {
+  bytes = taken;
+  told = lost ∙ ap (λ l. taken ++ l) end ∙ append-nil taken;
+  taken = taken;
+  lost = lost;
+  said = says;
+  ended = λ h. end;
+  counted = λ e. end;
+  met = λ e. absurd (own e);
+}
 
 -- ---- while the input is read
 
@@ -92,16 +122,24 @@ pub record Progress (w : Bool) (left rest : Option (List ℕ)) (read : ReadLines
   pub fed : IsFed text read scan
   pub same : read.weighted ≡ w
 
--- a source that fails says nothing
+-- no fault was met so far
+no_fault : (w : Bool) (left rest : Option (List ℕ)) (read : ReadLines) (scan : Scan) (total : ℕ) (p : Progress w left rest read scan total) → HasNoFault w p.text
+no_fault w left rest read scan total p = record {
+  short = omega (arith, p.size, p.short);
+  edges = p.fed.0.edges;
+  said = ap (λ v. outcome v (ended_lines p.text)) (sym p.same) ∙ p.fed.0.said;
+}
+
+-- a source that fails says nothing of the input
 pub progress_fails : (w : Bool) (left rest new : Option (List ℕ)) (read : ReadLines) (scan : Scan) (total : ℕ) → Progress w left rest read scan total → Keeps rest new → IsReadingOf w left new (Err ReadFault)
-progress_fails w left rest new read scan total p kept = reading_of_fault w left new p.text ReadFault (Consumes-kept left rest new p.text p.lost kept) (λ more. tt)
+progress_fails w left rest new read scan total p kept = reading_of_fault w left new p.text ReadFault (record { early = λ e. cc; met = λ e. no_fault w left rest read scan total p }) (Consumes-kept left rest new p.text p.lost kept) (λ more. tt)
 
 last_line : {T : Type 0} (w : Bool) (left rest : Option (List ℕ)) (text : List ℕ) (new : ReadLines) (result : Result T EdgeFault) → Consumes left rest text → IsAtEnd rest → length text ≤ input_limits.bytes → new.weighted ≡ w →
     Adds (newline_pieces text) new result → ReadsAll w left rest new result
 last_line w left rest text new (Ok x) lost end short same adds = record { text = text; lost = lost; ended = end; short = short; lines = adds; same = same }
 last_line w left rest text new (Err fault) lost end short same adds =
     let said : Says (Err fault) (outcome w (newline_pieces text)) = subst (λ v. Says (Err fault) (outcome v (newline_pieces text))) same adds.said in
-    reading_at_end w left rest text (Err fault) lost end (fault_at_end w text fault short (subst (Says (Err fault)) (sym (pieces_say w text 1 input_limits.edges)) said))
+    reading_at_end w left rest text (Err fault) (λ e. adds.own (same_fault fault ReadFault (Err fault) refl e)) lost end (fault_at_end w text fault short (subst (Says (Err fault)) (sym (pieces_say w text 1 input_limits.edges)) said))
 
 -- the last line is added at the end
 pub progress_ends : {T : Type 0} (w : Bool) (left rest new : Option (List ℕ)) (read after : ReadLines) (scan : Scan) (total : ℕ) (result : Result T EdgeFault) (p : Progress w left rest read scan total) → Consumes rest new [] → IsAtEnd new →
@@ -141,7 +179,7 @@ progress_faulty w left rest new read after scan total piece more took fault p lo
     let has : IsLineFault after.weighted (ended_lines (p.text ++ piece)) fault = feeds p.text p.fed (few_bytes p.text piece total p.size room) in
     let short : length (p.text ++ piece) ≤ input_limits.bytes = omega (arith, length-append p.text piece, p.size) in
     let own : IsLineFault w (ended_lines (p.text ++ piece)) fault = subst (λ v. IsLineFault v (ended_lines (p.text ++ piece)) fault) (same ∙ p.same) has in
-    reading_of_fault w left new (p.text ++ (piece ++ more)) fault (subst (λ l. Consumes left new (p.text ++ l)) is (Consumes-trans left rest new p.text took p.lost lost))
+    reading_of_fault w left new (p.text ++ (piece ++ more)) fault (record { early = own.early; met = λ e. absurd (own.own e) }) (subst (λ l. Consumes left new (p.text ++ l)) is (Consumes-trans left rest new p.text took p.lost lost))
     (λ others. subst (λ l. Says (Err fault) (input_of input_limits w l)) (regroup p.text piece more others) (early w (p.text ++ piece) (more ++ others) fault short own))
 
 pub progress_long : (w : Bool) (left rest new : Option (List ℕ)) (read after : ReadLines) (scan next : Scan) (total : ℕ) (piece more took : List ℕ) → Progress w left rest read scan total → Consumes rest new took →
@@ -151,7 +189,7 @@ progress_long w left rest new read after scan next total piece more took p lost 
     let full : length front ≡ input_limits.bytes = omega (arith, length-append p.text piece, p.size) in
     let lines : AreRead (ended_lines front) after = (feeds p.text p.fed (few_bytes p.text piece total p.size (omega (arith, room)))).0 in
     let said : outcome w (ended_lines front) ≡ Ok lines.edges = ap (λ v. outcome v (ended_lines front)) (sym (same ∙ p.same)) ∙ lines.said in
-    reading_of_fault w left new (p.text ++ (piece ++ more)) TooLong (subst (λ l. Consumes left new (p.text ++ l)) is (Consumes-trans left rest new p.text took p.lost lost))
+    reading_of_fault w left new (p.text ++ (piece ++ more)) TooLong (record { early = λ e. cc; met = λ e. cc }) (subst (λ l. Consumes left new (p.text ++ l)) is (Consumes-trans left rest new p.text took p.lost lost))
     (λ others. let on : 0 < length (more ++ others) = omega (arith, length-append more others) in
     subst (λ l. input_of input_limits w l ≡ Err too_long) (regroup p.text piece more others) (cut_short w front (more ++ others) lines.edges full on said))
 
@@ -176,13 +214,13 @@ both_ends lines read a =
     (omega (arith, ap length a.ends, ends_length a.edges, count), omega (arith, a.few, count))
 
 -- all lines are read, and say this
-pub reading_is : (w : Bool) (left rest : Option (List ℕ)) (read : ReadLines) (result : Result EdgeList EdgeFault) → AreAllRead w left rest read →
+pub reading_is : (w : Bool) (left rest : Option (List ℕ)) (read : ReadLines) (result : Result EdgeList EdgeFault) → (result ≡ Err ReadFault → ⊥) → AreAllRead w left rest read →
     ((edges : List IdEdge) → read.ends.items ≡ ends_of edges → read.weights.items ≡ map (λ e. e.weight) edges → Says result (result_at_end input_limits.vertices (Ok edges))) → IsReadingOf w left rest result
-reading_is w left rest read result a says =
+reading_is w left rest read result own a says =
     let said : outcome w (lines_of a.text) ≡ Ok a.lines.edges = pieces_say w a.text 1 input_limits.edges ∙ ap (λ v. outcome v (newline_pieces a.text)) (sym a.same) ∙ a.lines.said in
     let whole : input_of input_limits w a.text ≡ result_at_end input_limits.vertices (Ok a.lines.edges) = within_limit w a.text a.short ∙ ap (result_at_end input_limits.vertices) said in
-    reading_at_end w left rest a.text result a.lost a.ended (subst (Says result) (sym whole) (says a.lines.edges a.lines.ends a.lines.weights))
+    reading_at_end w left rest a.text result own a.lost a.ended (subst (Says result) (sym whole) (says a.lines.edges a.lines.ends a.lines.weights))
 
 -- want of memory says nothing
 pub reading_wants : (w : Bool) (left : Option (List ℕ)) → IsReadingOf w left left (Err Memory)
-reading_wants w left = reading_of_fault w left left [] Memory (Consumes-nil left) (λ more. tt)
+reading_wants w left = reading_of_fault w left left [] Memory (record { early = λ e. cc; met = λ e. cc }) (Consumes-nil left) (λ more. tt)

@@ -36,6 +36,7 @@ pub record AreRead (lines : List (List ℕ)) (read : ReadLines) : Type 0 where
 pub record IsLineFault (weighted : Bool) (lines : List (List ℕ)) (fault : EdgeFault) : Type 0 where
   pub said : Says (Err fault) (edges_within weighted 1 input_limits.edges lines)
   pub own : fault ≢ ReadFault
+  pub early : fault ≢ TooManyVertices
 
 -- these lines are read, or have a fault
 abbrev pub Adds : List (List ℕ) → ReadLines → {T : Type 0} → Result T EdgeFault → Type 0

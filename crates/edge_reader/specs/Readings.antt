@@ -1,9 +1,9 @@
 -- What a reading of an edge list says of its input.
-use Rattle.std.specs.Prelude.{◌≡◌, ℕ, ⊤, List, Option, Result, Ok, Err, IfSome, IsOk}
+use Rattle.std.specs.Prelude.{◌≡◌, ◌≤◌, ℕ, ⊤, List, length, Option, Result, Ok, Err, IfSome, IsOk}
 use Rattle.std.specs.Io.KnownBytes.{Consumes, IsAtEnd}
 use Rattle.px_base.specs.declared.graph.EdgeList.{EdgeList}
 use Rattle.px_base.specs.Lines.{IdEdge, IsEdgeListOf, LineFault, missing, bad_id, bad_weight}
-use Rattle.px_base.specs.Inputs.{InputFault, bad_line, too_many_edges, too_long, too_many_vertices, input_of, input_limits}
+use Rattle.px_base.specs.Inputs.{InputFault, bad_line, too_many_edges, too_long, too_many_vertices, input_of, input_limits, edges_within, ended_lines}
 use Rattle.std.specs.Prelude.{Bool}
 use Rattle.edge_reader.specs.declared.fault.EdgeFault.{EdgeFault}
 use Rattle.edge_reader.specs.declared.fault.EdgeFault.TheVariants.{Missing, BadId, BadWeight, TooManyVertices, TooManyEdges, TooLong, ReadFault, Memory}
@@ -24,6 +24,12 @@ Says (Err TooLong) outcome = outcome ≡ Err too_long
 Says (Err ReadFault) outcome = ⊤
 Says (Err Memory) outcome = ⊤
 
+-- Bytes in which no fault was met yet: they are not too many, and the lines that ended are right and have not too many edges.
+pub record HasNoFault (weighted : Bool) (bytes : List ℕ) : Type 0 where
+  pub short : length bytes ≤ input_limits.bytes
+  pub edges : List IdEdge
+  pub said : edges_within weighted 1 input_limits.edges (ended_lines bytes) ≡ Ok edges
+
 -- Where the source tells its bytes, they are all that was left; where it doesn't, there are some bytes of which all this
 -- holds.
 pub record IsReadingOf (weighted : Bool) (left rest : Option (List ℕ)) (result : Result EdgeList EdgeFault) : Type 0 where
@@ -36,3 +42,7 @@ pub record IsReadingOf (weighted : Bool) (left rest : Option (List ℕ)) (result
   pub said : Says result (input_of input_limits weighted bytes)
   -- edges come only at the end
   pub ended : IsOk result → IsAtEnd rest
+  -- the vertices are counted only at the end
+  pub counted : result ≡ Err TooManyVertices → IsAtEnd rest
+  -- a fault of the source is the answer only where no other fault was met before it
+  pub met : result ≡ Err ReadFault → HasNoFault weighted taken

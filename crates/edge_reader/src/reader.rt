@@ -1,4 +1,4 @@
-ghost use Rattle.std.specs.Prelude.{◌≡◌, ◌<◌, ◌≤◌, [], Err, IfOk, length, vec_len};
+ghost use Rattle.std.specs.Prelude.{◌≡◌, ◌<◌, ◌≤◌, ◌⊎◌, [], Err, IfOk, length, vec_len};
 ghost use Rattle.px_base.specs.Lines.{EdgeListFits};
 ghost use Rattle.px_io.specs.Causes.{Rose};
 ghost use Rattle.edge_reader.specs.Readings.{IsReadingOf};
@@ -36,6 +36,7 @@ fn read_lines<S: Source>(
     ensures read { ReadsAll lines.old.weighted (S.left source.old) (S.left source.new) lines.new result }
     ensures cause { result ≡ Err EdgeFault.ReadFault → Rose (S.faults source.old) (S.faults source.new) }
     ensures faults_later { S.faults source.old ≤ S.faults source.new }
+    ensures first { result ≡ Err EdgeFault.ReadFault ⊎ (S.faults source.new ≡ S.faults source.old) }
 {
     let mut scan = Scan::new();
     let mut total: u64 = 0;
@@ -59,7 +60,9 @@ fn read_lines<S: Source>(
 /// Reads an edge list to the end of the source. Each line has two ids below 2^32 in decimal, and where weights are read
 /// maybe a weight below 2^32; without one it is 1. Blanks and tabs stand between fields, further fields are skipped, and
 /// so are lines that begin with `#` or `%` or have no field. A fault is the first on the way from front to back. At most
-/// 2^32 - 1 bytes, 2^24 edge lines and 2^22 vertices are allowed.
+/// 2^32 - 1 bytes, 2^24 edge lines and 2^22 vertices are allowed. A source that fails is not tried again: the answer is
+/// `ReadFault` then, and it comes only where the bytes taken before are within their limits and no line that ended in
+/// them has a fault.
 pub fn read_edges<S: Source>(
     alloc: Global,
     source: &mut S,
@@ -69,6 +72,7 @@ pub fn read_edges<S: Source>(
     ensures fits { IfOk result (λ list. EdgeListFits list) }
     ensures cause { result ≡ Err EdgeFault.ReadFault → Rose (S.faults source.old) (S.faults source.new) }
     ensures faults_later { S.faults source.old ≤ S.faults source.new }
+    ensures first { result ≡ Err EdgeFault.ReadFault ⊎ (S.faults source.new ≡ S.faults source.old) }
 {
     let mut space = zeros(alloc, PIECE)?;
     let mut lines = ReadLines::new(alloc, weighted);

@@ -59,11 +59,15 @@ said_stops id fault.Memory outcome said decided = cc
 
 -- the input is refused
 pub input_stops : (id : ℕ) (left rest : Option (List ℕ)) (what : EdgeFault) → IsReadingOf false left rest (Err what) → IsSolution bfs (id ∷ []) left rest (Err (stop.Input what))
+unfolding ending_of
 input_stops id left rest what r = record {
   bytes = r.bytes;
   told = r.told;
   ends = said_stops id what (input_of input_limits false r.bytes) r.said;
   ended = λ h. cc;
+  taken = r.taken;
+  lost = r.lost;
+  met = λ h. r.met (let same : what ≡ fault.ReadFault = cc in ap Err same);
 }
 
 -- the ending by whether the source is listed
@@ -78,6 +82,7 @@ known_ends id edges some = ap (ending_if id edges) some
 
 -- the source is in no edge
 pub source_stops : (id : ℕ) (left rest : Option (List ℕ)) (list : EdgeList) → IsReadingOf false left rest (Ok list) → is_listed list.ids id ≡ false → IsSolution bfs (id ∷ []) left rest (Err (stop.UnknownSource id))
+unfolding ending_of
 source_stops id left rest list r none =
     let edges : List IdEdge = r.said.0 in
     let absent : is_listed (ends_of edges) id ≡ false = sym (listed_ends edges list id r.said.2) ∙ none in
@@ -86,15 +91,19 @@ source_stops id left rest list r none =
       told = r.told;
       ends = λ decided. rw (r.said.1, unknown_ends id edges absent) refl;
       ended = λ h. cc;
+      taken = r.taken;
+      lost = r.lost;
+      met = λ h. absurd (cc);
     }
 
 -- memory was wanting
 pub memory_stops : (id : ℕ) (left rest : Option (List ℕ)) (list : EdgeList) → IsReadingOf false left rest (Ok list) → IsSolution bfs (id ∷ []) left rest (Err stop.Memory)
-memory_stops id left rest list r = record { bytes = r.bytes; told = r.told; ends = λ decided. cc; ended = λ h. cc }
+memory_stops id left rest list r = record { bytes = r.bytes; told = r.told; ends = λ decided. cc; ended = λ h. cc; taken = r.taken; lost = r.lost; met = λ h. absurd (cc) }
 
 -- the answer's text
 pub text_found : (id at : ℕ) (left rest : Option (List ℕ)) (list : EdgeList) (text : List ℕ) → IsReadingOf false left rest (Ok list) → is_listed list.ids id ≡ true → at ≡ place_of list.ids id →
     IsAnswerOn bfs (at ∷ []) list text → IsSolution bfs (id ∷ []) left rest (Ok text)
+unfolding ending_of
 text_found id at left rest list text r some place answer =
     let edges : List IdEdge = r.said.0 in
     let present : is_listed (ends_of edges) id ≡ true = sym (listed_ends edges list id r.said.2) ∙ some in
@@ -104,6 +113,9 @@ text_found id at left rest list text r some place answer =
       told = r.told;
       ends = rw (r.said.1, known_ends id edges present) is;
       ended = λ h. r.ended refl;
+      taken = r.taken;
+      lost = r.lost;
+      met = λ h. absurd (cc);
     }
 
 -- ---- runs
@@ -146,6 +158,23 @@ only_write_is_seven (stop.UnknownSource id) h = absurd (omega (arith, h))
 only_write_is_seven stop.WriteFault h = refl
 only_write_is_seven stop.Memory h = absurd (omega (arith, h))
 
+fault_is_six : (what : EdgeFault) → fault_status what ≡ 6 → what ≡ fault.ReadFault
+fault_is_six (fault.Missing line) h = absurd (omega (arith, h))
+fault_is_six (fault.BadId line) h = absurd (omega (arith, h))
+fault_is_six (fault.BadWeight line) h = absurd (omega (arith, h))
+fault_is_six fault.TooManyVertices h = absurd (omega (arith, h))
+fault_is_six fault.TooManyEdges h = absurd (omega (arith, h))
+fault_is_six fault.TooLong h = absurd (omega (arith, h))
+fault_is_six fault.ReadFault h = refl
+fault_is_six fault.Memory h = absurd (omega (arith, h))
+
+only_read_is_six : (why : Stop) → stop_status why ≡ 6 → why ≡ stop.Input fault.ReadFault
+only_read_is_six stop.BadWords h = absurd (omega (arith, h))
+only_read_is_six (stop.Input what) h = ap stop.Input (fault_is_six what h)
+only_read_is_six (stop.UnknownSource id) h = absurd (omega (arith, h))
+only_read_is_six stop.WriteFault h = absurd (omega (arith, h))
+only_read_is_six stop.Memory h = absurd (omega (arith, h))
+
 -- a run that stopped before it wrote
 pub run_stopped : (id : ℕ) (left rest old : Option (List ℕ)) (why : Stop) → IsSolution bfs (id ∷ []) left rest (Err why) → (why ≡ stop.WriteFault → ⊥) →
     IsRunOf bfs (id ∷ []) (stop_status why) left rest old old
@@ -158,6 +187,9 @@ run_stopped id left rest old why s unwritten = record {
   partly = λ h. absurd (unwritten (only_write_is_seven why h));
   maybe_partly = λ h. inl (keeps_all old);
   untouched = λ a b c. keeps_all old;
+  taken = s.taken;
+  lost = s.lost;
+  met = λ h. s.met (ap Err (only_read_is_six why h));
 }
 
 text_ends : (ending : Ending) (text : List ℕ) → IsEndingText ending text → 0 ≡ status_of ending
@@ -176,6 +208,9 @@ run_written id left rest old new text s grown = record {
   partly = λ h. absurd (omega (arith, h));
   maybe_partly = λ h. absurd (omega (arith, h));
   untouched = λ a b c. absurd (a refl);
+  taken = s.taken;
+  lost = s.lost;
+  met = λ h. absurd (omega (arith, h));
 }
 
 -- a run whose sink failed
@@ -189,6 +224,9 @@ run_failed id left rest old new text s grown = record {
   partly = λ h. record { text = text; answer = s.ends; written = grown };
   maybe_partly = λ h. absurd (omega (arith, h));
   untouched = λ a b c. absurd (b refl);
+  taken = s.taken;
+  lost = s.lost;
+  met = λ h. absurd (omega (arith, h));
 }
 
 -- a run whose sink wanted memory
@@ -202,4 +240,7 @@ run_wanted id left rest old new text s grown = record {
   partly = λ h. absurd (omega (arith, h));
   maybe_partly = λ h. inr (record { text = text; answer = s.ends; written = grown });
   untouched = λ a b c. absurd (c refl);
+  taken = s.taken;
+  lost = s.lost;
+  met = λ h. absurd (omega (arith, h));
 }

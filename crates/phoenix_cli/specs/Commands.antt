@@ -11,6 +11,6 @@ abbrev pub source_in : List ℕ → Option ℕ
 source_in word = if nat_le (length word) 20 then small_number word else None
 
 -- the SOURCE of the words `run`, `bfs` and one SOURCE; other words have none
-abbrev pub bfs_source : List (List ℕ) → Option ℕ
+unfoldable pub bfs_source : List (List ℕ) → Option ℕ
 bfs_source words = if length words == 3 && bytes_eq (word_at words 0) (codes "run") && bytes_eq (word_at words 1) (codes "bfs")
     then source_in (word_at words 2) else None

@@ -18,7 +18,7 @@ ending_of_edges program sources (Err fault) = bad_input fault
 ending_of_edges program sources (Ok edges) = elim (first_unknown (ends_of edges) sources) [ Some id ↦ unknown_source id | None ↦ answered program sources edges ]
 
 -- how the program from these sources ends on these bytes
-abbrev pub ending_of : Program → List ℕ → List ℕ → Ending
+unfoldable pub ending_of : Program → List ℕ → List ℕ → Ending
 ending_of program sources bytes = ending_of_edges program sources (input_of input_limits (uses_weight program.along) bytes)
 
 -- the status of an input that is refused

@@ -1,8 +1,10 @@
 -- What a status says of a call of `run`.
 use Rattle.std.specs.Prelude.{◌≡◌, ◌≢◌, ◌⊎◌, ℕ, Bool, IsTrue, IfSome, List, [], ◌∷◌, Option}
-use Rattle.std.specs.Io.KnownBytes.{Keeps, Appends, IsAtEnd}
+use Rattle.std.specs.Io.KnownBytes.{Keeps, Appends, Consumes, IsAtEnd}
 use Rattle.px_base.specs.declared.program.Program.{Program}
 use Rattle.px_base.specs.Values.{is_listed}
+use Rattle.px_base.specs.Starts.{uses_weight}
+use Rattle.edge_reader.specs.Readings.{HasNoFault}
 use Rattle.px_io.specs.Causes.{AppendsPrefix}
 use Rattle.phoenix_cli.specs.Endings.{Ending, ending_of, status_of, IsEndingText}
 
@@ -38,3 +40,7 @@ pub record IsRunOf (program : Program) (sources : List ℕ) (status : ℕ) (left
   pub partly : status ≡ 7 → WritesPrefix (ending_of program sources bytes) old new
   pub maybe_partly : status ≡ 11 → Keeps old new ⊎ WritesPrefix (ending_of program sources bytes) old new
   pub untouched : status ≢ 0 → status ≢ 7 → status ≢ 11 → Keeps old new
+  -- what was taken of the bytes, and that a fault of the source was the first one
+  pub taken : List ℕ
+  pub lost : Consumes left rest taken
+  pub met : status ≡ 6 → HasNoFault (uses_weight program.along) taken

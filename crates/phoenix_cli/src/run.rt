@@ -1,5 +1,4 @@
-ghost use Rattle.std.specs.Prelude.{◌≡◌, ◌∷◌, [], IfSome, IsTrue, None};
-ghost use Rattle.std.specs.Io.KnownBytes.{Keeps};
+ghost use Rattle.std.specs.Prelude.{◌≡◌, ◌≢◌, ◌≤◌, ◌∷◌, [], IfSome, IsTrue, None};
 ghost use Rattle.px_base.specs.Programs.{bfs};
 ghost use Rattle.px_io.specs.Causes.{Rose};
 ghost use Rattle.phoenix_cli.specs.Commands.{bfs_source};
@@ -26,6 +25,10 @@ fn run_bfs<R: Threads + Sync, S: Source, K: Sink>(
     ensures read_fault { outcome_status result ≡ 6 → Rose (S.faults source.old) (S.faults source.new) }
     ensures write_fault { outcome_status result ≡ 7 → Rose (K.faults sink.old) (K.faults sink.new) }
     ensures no_words { outcome_status result ≡ 2 → ⊥ }
+    ensures no_fault { outcome_status result ≢ 6 → S.faults source.new ≡ S.faults source.old }
+    ensures untouched { outcome_status result ≢ 0 → outcome_status result ≢ 7 → outcome_status result ≢ 11 → sink.new ≡ sink.old }
+    ensures source_later { S.faults source.old ≤ S.faults source.new }
+    ensures sink_later { K.faults sink.old ≤ K.faults sink.new }
 {
     let text = match bfs_text(rt, alloc, id, source) {
         Ok(text) => text,
@@ -49,11 +52,15 @@ fn run<R: Threads + Sync, S: Source, K: Sink>(
     ensures known { IsTrue (is_run_status (outcome_status result)) }
     ensures words { outcome_status result ≡ 2 → bfs_source words.now ≡ None }
     ensures no_words { bfs_source words.now ≡ None → outcome_status result ≡ 2 }
-    ensures no_text { bfs_source words.now ≡ None → Keeps (K.written sink.old) (K.written sink.new) }
+    ensures unread { bfs_source words.now ≡ None → source.new ≡ source.old }
+    ensures no_fault { outcome_status result ≢ 6 → S.faults source.new ≡ S.faults source.old }
+    ensures untouched { outcome_status result ≢ 0 → outcome_status result ≢ 7 → outcome_status result ≢ 11 → sink.new ≡ sink.old }
     ensures run { IfSome (bfs_source words.now) (λ id.
         IsRunOf bfs (id ∷ []) (outcome_status result) (S.left source.old) (S.left source.new) (K.written sink.old) (K.written sink.new)) }
     ensures read_fault { outcome_status result ≡ 6 → Rose (S.faults source.old) (S.faults source.new) }
     ensures write_fault { outcome_status result ≡ 7 → Rose (K.faults sink.old) (K.faults sink.new) }
+    ensures source_later { S.faults source.old ≤ S.faults source.new }
+    ensures sink_later { K.faults sink.old ≤ K.faults sink.new }
 {
     match bfs_source(words) {
         Some(id) => run_bfs(rt, alloc, id, source, sink),
@@ -75,19 +82,27 @@ pub fn phoenix<R: Threads + Sync, S: Source, K: Sink, F: Sink>(
 ) -> u8
     ensures known { IsTrue (is_run_status result) }
 
-    // 2 comes exactly where the words aren't `run`, `bfs` and one SOURCE: telling words apart takes no memory.
+    // 2 comes exactly where the words aren't `run`, `bfs` and one SOURCE: telling words apart takes no memory, and reads
+    // nothing.
     ensures words { result ≡ 2 → bfs_source words.now ≡ None }
     ensures no_words { bfs_source words.now ≡ None → result ≡ 2 }
-    ensures no_text { bfs_source words.now ≡ None → Keeps (K.written sink.old) (K.written sink.new) }
+    ensures unread { bfs_source words.now ≡ None → source.new ≡ source.old }
+
+    // Only an answer goes to the sink, and `faults` is left alone with it.
+    ensures untouched { result ≢ 0 → result ≢ 7 → result ≢ 11 → sink.new ≡ sink.old }
+    ensures silent { result ≡ 0 → faults.new ≡ faults.old }
 
     // 0, 3, 5 and 12 come exactly where the bytes say so, but for 6, 7 and 11. 0 writes the text of the answer, and
     // 7 and 11 write a prefix of it.
     ensures run { IfSome (bfs_source words.now) (λ id.
         IsRunOf bfs (id ∷ []) result (S.left source.old) (S.left source.new) (K.written sink.old) (K.written sink.new)) }
 
-    // 6 and 7: the source or the sink failed in this call.
+    // 6 and 7: the source or the sink failed in this call. A source that failed is never asked again, and no count falls.
     ensures read_fault { result ≡ 6 → Rose (S.faults source.old) (S.faults source.new) }
+    ensures no_fault { result ≢ 6 → S.faults source.new ≡ S.faults source.old }
     ensures write_fault { result ≡ 7 → Rose (K.faults sink.old) (K.faults sink.new) }
+    ensures source_later { S.faults source.old ≤ S.faults source.new }
+    ensures sink_later { K.faults sink.old ≤ K.faults sink.new }
 {
     match run(rt, alloc, words, source, sink) {
         Ok(()) => 0,

@@ -1,4 +1,4 @@
-ghost use Rattle.std.specs.Prelude.{◌≡◌, ◌≤◌, ◌<◌, ◌^◌, ◌∷◌, [], false, true, Err, IfOk, IfSome, IfNone, length, if◌then◌else◌};
+ghost use Rattle.std.specs.Prelude.{◌≡◌, ◌≢◌, ◌≤◌, ◌<◌, ◌^◌, ◌∷◌, [], false, true, Err, IfOk, IfSome, IfNone, length, if◌then◌else◌};
 ghost use Rattle.px_base.specs.AnswerTexts.{IsAnswerOn};
 ghost use Rattle.px_base.specs.Lines.{EdgeListFits};
 ghost use Rattle.px_base.specs.Programs.{bfs};
@@ -90,6 +90,8 @@ pub fn bfs_text<R: Threads + Sync, S: Source>(
     ensures read { result ≡ Err (Stop.Input EdgeFault.ReadFault) → Rose (S.faults source.old) (S.faults source.new) }
     ensures nothing_written { result ≡ Err Stop.WriteFault → ⊥ }
     ensures no_words { result ≡ Err Stop.BadWords → ⊥ }
+    ensures faults_later { S.faults source.old ≤ S.faults source.new }
+    ensures no_fault { result ≢ Err (Stop.Input EdgeFault.ReadFault) → S.faults source.new ≡ S.faults source.old }
 {
     let list = match read_edges(alloc, source, false) {
         Ok(list) => list,

@@ -20,6 +20,7 @@ fn source_in(word: &[u8]) -> Option<Id>
 }
 
 /// The SOURCE of the words, where they are `run`, `bfs` and one SOURCE.
+#[tactic(auto, unfolding(crate::specs::Commands::bfs_source))]
 pub fn bfs_source(words: &Words) -> Option<Id>
     ensures { result ≡ bfs_source words.now }
 {

@@ -5,7 +5,7 @@
 mod tests {
     use phoenix_cli::phoenix;
     use px_base::{Memory, Words, write_number};
-    use px_io::{MemSink, MemSource, SureSink, SureSource};
+    use px_io::{MemSink, MemSource, ReadFrom, SureSink, SureSource, WriteTo};
     use std::alloc::Global;
     use std::process::Abort;
     use std::test::Fail;
@@ -221,6 +221,57 @@ mod tests {
             assert_eq!(rt; ran.answer.as_slice(), answer.as_bytes(), "at call {call}");
             assert_eq!(rt; ran.fault.as_slice(), fault.as_bytes(), "at call {call}");
         }
+        Ok(())
+    }
+
+    #[test]
+    fn judges_a_line_before_a_later_read_fault(rt: HostRuntime) -> Result<(), Fail> {
+        let ran = run_failing(&rt, rt.alloc(), "1", "1 x\n1 2\n", (2, 0, 0))?;
+        assert_eq!(rt; ran.status, 3);
+        assert_eq!(rt;
+            ran.fault.as_slice(),
+            b"phoenix: line 1: bad vertex\n".as_slice()
+        );
+        Ok(())
+    }
+
+    #[test]
+    fn goes_over_readers_and_writers(rt: HostRuntime) -> Result<(), Fail> {
+        let alloc = rt.alloc();
+        let words = words_of(alloc, &["run", "bfs", "1"])?;
+        let mut answer = Vec::new(alloc);
+        let mut fault = Vec::new(alloc);
+        let status = phoenix(
+            &rt,
+            alloc,
+            &words,
+            &mut ReadFrom::new(FOUR.as_bytes()),
+            &mut WriteTo::new(&mut answer),
+            &mut WriteTo::new(&mut fault),
+        );
+        assert_eq!(rt; status, 0);
+        assert_eq!(rt; answer.as_slice(), b"1 0\n2 1\n3 1\n4 2\n".as_slice());
+        assert!(rt; fault.is_empty());
+        Ok(())
+    }
+
+    #[test]
+    fn finds_a_writer_that_is_full(rt: HostRuntime) -> Result<(), Fail> {
+        let alloc = rt.alloc();
+        let words = words_of(alloc, &["run", "bfs", "1"])?;
+        let mut room = [0u8; 6];
+        let mut fault = Vec::new(alloc);
+        let status = phoenix(
+            &rt,
+            alloc,
+            &words,
+            &mut ReadFrom::new(FOUR.as_bytes()),
+            &mut WriteTo::new(room.as_mut_slice()),
+            &mut WriteTo::new(&mut fault),
+        );
+        assert_eq!(rt; status, 7);
+        assert_eq!(rt; room.as_slice(), b"1 0\n2 ".as_slice());
+        assert_eq!(rt; fault.as_slice(), b"phoenix: write fault\n".as_slice());
         Ok(())
     }
 

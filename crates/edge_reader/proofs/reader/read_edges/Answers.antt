@@ -19,4 +19,4 @@ finish-requires-clause-few g c = (both_ends (newline_pieces c.in_ok-read_lines.e
 pub returns-clause-read : goal.returns-clause-read
 returns-clause-read g c =
     subst (λ w. IsReadingOf w (g.S.Source.left c.args.source.now) (g.S.Source.left c.read_lines.new.source) c.finish.result) c.new-lines.ensures.weighted
-    (reading_is c.new-lines.result.weighted (g.S.Source.left c.args.source.now) (g.S.Source.left c.read_lines.new.source) c.read_lines.new.lines c.finish.result c.in_ok-read_lines.ensures.read c.finish.ensures.says)
+    (reading_is c.new-lines.result.weighted (g.S.Source.left c.args.source.now) (g.S.Source.left c.read_lines.new.source) c.read_lines.new.lines c.finish.result c.finish.ensures.own c.in_ok-read_lines.ensures.read c.finish.ensures.says)

@@ -16,7 +16,7 @@ use Rattle.edge_reader.proofs.reader.read_lines.Goals as goal
 pub loop-count-init : goal.loop-count-init
 loop-count-init g c = record {
   progress = record { text = []; size = refl; short = omega arith; lost = Consumes-nil (g.S.Source.left c.args.source.now); fed = (c.requires.fresh, c.new-scan.ensures); same = refl };
-  faults = omega arith;
+  faults = refl;
 }
 
 pub loop-count-preserved : goal.loop-count-preserved
@@ -26,7 +26,7 @@ loop-count-preserved g c =
       progress = subst (λ n. Progress c.args.lines.now.weighted (g.S.Source.left c.args.source.now) (g.S.Source.left c.take.new.self) c.feed-in-loop-count.new.self c.in_ok-scan.scan (c.loop-count.total + n)) size
           (progress_goes_on c.args.lines.now.weighted (g.S.Source.left c.args.source.now) (g.S.Source.left c.loop-count.source) (g.S.Source.left c.take.new.self) c.loop-count.lines c.feed-in-loop-count.new.self c.loop-count.scan c.in_ok-scan.scan c.loop-count.total
           (take c.in-Ok.count c.take.new.space) c.loop-count.invariant.progress c.in-Ok.ensures.moved (omega (arith, size, c.loop-count.invariant.progress.short)) c.feed-in-loop-count.ensures.weighted c.in_ok-scan.ensures.fed);
-      faults = omega (arith, c.loop-count.invariant.faults, c.take.ensures.cause.later);
+      faults = c.in-Ok.ensures.quiet ∙ c.loop-count.invariant.faults;
     }
 
 pub returns-in_default-clause-read : goal.returns-in_default-clause-read

@@ -14,10 +14,10 @@ returns-in-Edge-clause-adds c = λ lines line read is small.
     c.add.ensures.weighted (omega (arith, c.saturating_add-self.ensures, read.line, c.add.ensures.line)) c.add.ensures.ends c.add.ensures.weights c.add.ensures.room c.add.ensures.refused
 
 pub returns-in-Missing-clause-adds : goal.returns-in-Missing-clause-adds
-returns-in-Missing-clause-adds c = λ lines line read is small. record { said = bad_more lines line _ c.args.self.now read (is ∙ ap line_said c.in-Missing.is); own = λ x. cc }
+returns-in-Missing-clause-adds c = λ lines line read is small. record { said = bad_more lines line _ c.args.self.now read (is ∙ ap line_said c.in-Missing.is); own = λ x. cc; early = λ x. cc }
 
 pub returns-in-BadId-clause-adds : goal.returns-in-BadId-clause-adds
-returns-in-BadId-clause-adds c = λ lines line read is small. record { said = bad_more lines line _ c.args.self.now read (is ∙ ap line_said c.in-BadId.is); own = λ x. cc }
+returns-in-BadId-clause-adds c = λ lines line read is small. record { said = bad_more lines line _ c.args.self.now read (is ∙ ap line_said c.in-BadId.is); own = λ x. cc; early = λ x. cc }
 
 pub returns-in-BadWeight-clause-adds : goal.returns-in-BadWeight-clause-adds
-returns-in-BadWeight-clause-adds c = λ lines line read is small. record { said = bad_more lines line _ c.args.self.now read (is ∙ ap line_said c.in-BadWeight.is); own = λ x. cc }
+returns-in-BadWeight-clause-adds c = λ lines line read is small. record { said = bad_more lines line _ c.args.self.now read (is ∙ ap line_said c.in-BadWeight.is); own = λ x. cc; early = λ x. cc }

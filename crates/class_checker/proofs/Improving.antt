@@ -5,7 +5,7 @@ use Rattle.px_base.specs.declared.program.Program.{Program}
 use Rattle.px_base.specs.declared.program.CoreProgram.{CoreProgram}
 use Rattle.px_base.specs.Classes.{may_lower, may_raise}
 use Rattle.px_base.specs.Laws.{NeverImproves}
-use Rattle.value_laws.proofs.EdgeLaws.{never_lower, never_raise}
+use Rattle.value_laws.proofs.NeverImproving.{never_lower, never_raise}
 use Rattle.class_checker.specs.Gathering.{may_improve}
 
 -- the test of the core form, by whether it is flipped

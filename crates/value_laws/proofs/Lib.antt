@@ -1,3 +1,3 @@
-pub mod Absent
-pub mod EdgeLaws
-pub mod LeastLaws
+pub mod FirstAbsent
+pub mod LeastGrows
+pub mod NeverImproving

@@ -7,7 +7,7 @@ ghost use Rattle.value_laws.specs.Candidates.{has_bit, MarksFrom};
 use px_base::Value;
 
 /// The word with bit `item - low` as well, where there is such a bit.
-#[tactic(auto, using(crate::proofs::Absent::marked, crate::proofs::Absent::unmarked_below, crate::proofs::Absent::unmarked_past))]
+#[tactic(auto, using(crate::proofs::FirstAbsent::marked, crate::proofs::FirstAbsent::unmarked_below, crate::proofs::FirstAbsent::unmarked_past))]
 fn with_item(word: u64, low: Value, item: Value) -> u64
     ensures { (k : ℕ) → k < 64 → has_bit result k ≡ (has_bit word k || item == low + k) }
 {
@@ -19,7 +19,7 @@ fn with_item(word: u64, low: Value, item: Value) -> u64
 }
 
 /// The word whose bit `k` says whether `low + k` is among the items.
-#[tactic(auto, using(crate::proofs::Absent::marks_more))]
+#[tactic(auto, using(crate::proofs::FirstAbsent::marks_more))]
 fn marks_from(items: &[Value], low: Value) -> u64
     ensures { MarksFrom low items.now result }
 {

@@ -3,7 +3,7 @@ ghost use Rattle.px_base.specs.Values.{IsValue, IsWeight};
 ghost use Rattle.px_base.specs.Classes.{may_lower, may_raise};
 ghost use Rattle.px_base.specs.Core.{core_edge_value};
 ghost use Rattle.px_base.specs.Laws.{NeverImproves};
-ghost use Rattle.value_laws.proofs.EdgeLaws.{core_in_range, core_monotone};
+ghost use Rattle.value_laws.specs.EdgeLaws.{core_in_range, core_monotone};
 
 use crate::values::{edge_value, flip};
 use px_base::{Along, CoreProgram, Value, Weight};

@@ -1,4 +1,4 @@
-use Rattle.value_laws.proofs.LeastLaws.{grows_with_start, grows_with_items}
+use Rattle.value_laws.proofs.LeastGrows.{grows_with_start, grows_with_items}
 use Rattle.value_laws.proofs.laws.least_is_monotone.Goals as goal
 
 pub returns-clause-start : goal.returns-clause-start

@@ -4,12 +4,13 @@ use Rattle.std.specs.Prelude.{◌==◌, ◌||◌, Contains, Any, bit_or}
 use Rattle.std.specs.Int.{bit_at, trailing_ones, w64}
 use Rattle.std.proofs.lemmas.Bool.{cases_lt}
 use Rattle.std.proofs.lemmas.Bool.Decides.{eqb_tells, nat_tests}
-use Rattle.std.proofs.lemmas.List.Folds.{list_any_more, list_any_at, Any-from_list_any}
+use Rattle.std.proofs.lemmas.List.Folds.{list_any_more, Any-from_list_any}
 use Rattle.std.proofs.lemmas.Nat.Bits.{bit_at_ones, bit_at_set_same, bit_at_set_other, bit_at-trailing_ones}
 use Rattle.px_base.specs.Values.{is_listed}
 use Rattle.px_base.specs.Rules.{mex, IsMex}
 use Rattle.px_base.proofs.Gathers.{pigeons, mex_is, mex_only}
 use Rattle.value_laws.specs.Candidates.{has_bit, MarksFrom}
+use Rattle.value_laws.specs.GatherLaws.{among}
 
 -- ---- one item more
 
@@ -84,9 +85,6 @@ found items low word some below marks =
       absent = sym (marks (trailing_ones w64 word) first.0) ∙ ap (λ bit. bit == 1) first.1;
       each = more_listed items low word (trailing_ones w64 word) (omega (arith, first.0)) first.2 below marks;
     }
-
-among : (items : List ℕ) (k : ℕ) → Contains items k → is_listed items k ≡ true
-among items k (i, below, is) = list_any_at (λ x. x == k) items i k below (rw is (eq-eqb k k refl))
 
 contained : (items : List ℕ) (k : ℕ) → is_listed items k ≡ true → Contains items k
 contained items k h =

@@ -7,7 +7,7 @@ use Rattle.std.proofs.lemmas.Bool.Decides.{eqb_tells, nat_tests}
 use Rattle.std.proofs.lemmas.List.Folds.{list_any_more, Any-from_list_any}
 use Rattle.std.proofs.lemmas.Nat.Bits.{bit_at_ones, bit_at_set_same, bit_at_set_other, bit_at-trailing_ones}
 use Rattle.px_base.specs.Values.{is_listed}
-use Rattle.px_base.specs.Rules.{mex, IsMex}
+use Rattle.px_base.specs.Rules.{mex}
 use Rattle.px_base.proofs.Gathers.{pigeons, mex_is, mex_only}
 use Rattle.value_laws.specs.Candidates.{has_bit, MarksFrom}
 use Rattle.value_laws.specs.GatherLaws.{among}
@@ -69,9 +69,9 @@ more_listed items low word ones small set below marks = λ k under. elim (cases_
 pub full_word : (items : List ℕ) (low word : ℕ) → word ≡ 2 ^ 64 - 1 → ListedBelow low items → MarksFrom low items word → ListedBelow (low + 64) items
 full_word items low word full below marks = more_listed items low word 64 (omega arith) (λ i small. rw full (bit_at_ones 64 i small)) below marks
 
--- there are as many items
-pub room : (items : List ℕ) (low : ℕ) → ListedBelow low items → low ≤ length items
-room items low below = pigeons low items below
+-- so there are as many items
+pub full_word_within : (items : List ℕ) (low word : ℕ) → word ≡ 2 ^ 64 - 1 → ListedBelow low items → MarksFrom low items word → low + 64 ≤ length items
+full_word_within items low word full below marks = pigeons (low + 64) items (full_word items low word full below marks)
 
 record Found (items : List ℕ) (m : ℕ) : Type 0 where
   absent : is_listed items m ≡ false
@@ -102,4 +102,4 @@ first_zero_is_mex items low word some below marks = found_is_mex items (low + tr
 
 -- it is at most the number of items
 pub first_zero_within : (items : List ℕ) (low word : ℕ) → word + 1 < 2 ^ 64 → ListedBelow low items → MarksFrom low items word → low + trailing_ones w64 word ≤ length items
-first_zero_within items low word some below marks = let f : Found items (low + trailing_ones w64 word) = found items low word some below marks in room items (low + trailing_ones w64 word) f.each
+first_zero_within items low word some below marks = let f : Found items (low + trailing_ones w64 word) = found items low word some below marks in pigeons (low + trailing_ones w64 word) items f.each

@@ -3,7 +3,6 @@ use Rattle.std.proofs.Common.{ℕ, ◌≤◌, min, List, [], ◌∷◌, arith}
 use Rattle.std.specs.List.{AllZip}
 use Rattle.px_base.specs.Rules.{least}
 
-
 -- with the start value
 pub grows_with_start : (a b : ℕ) (items : List ℕ) → a ≤ b → least a items ≤ least b items
 grows_with_start a b [] below = below

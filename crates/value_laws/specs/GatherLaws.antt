@@ -2,7 +2,6 @@
 use Rattle.std.proofs.Common.{ℕ, ◌≡◌, ◌≤◌, true, List, length, refl, arith, eq-eqb}
 use Rattle.std.specs.Prelude.{◌==◌, Contains}
 use Rattle.std.proofs.lemmas.List.Folds.{list_any_at}
-use Rattle.px_base.specs.declared.TheConstants.{TOP}
 use Rattle.px_base.specs.Values.{IsValue, is_listed}
 use Rattle.px_base.specs.Rules.{least, mex, IsMex}
 use Rattle.px_base.proofs.Gathers.{least_below_start, mex_is, pigeons}

@@ -1,19 +1,17 @@
-use Rattle.std.proofs.Common.{arith, ap, ◌∙◌, ◌+◌, ◌≡◌}
+use Rattle.std.proofs.Common.{arith, ◌∙◌, ◌≡◌}
 use Rattle.std.specs.Int.{trailing_ones, w64}
-use Rattle.value_laws.proofs.FirstAbsent.{ListedBelow, full_word, room, first_zero_is_mex, first_zero_within}
+use Rattle.value_laws.proofs.FirstAbsent.{full_word, full_word_within, first_zero_is_mex, first_zero_within}
 use Rattle.value_laws.proofs.absent.least_absent.Goals as goal
 
 pub overflow_add-low : goal.overflow_add-low
 overflow_add-low c =
     let i = c.loop-word.invariant in
-    let more : ListedBelow (c.loop-word.low + 64) c.args.items.now = full_word c.args.items.now c.loop-word.low c.loop-word.word c.loop-word-test.true i.listed i.marks in
-    omega (arith, room c.args.items.now (c.loop-word.low + 64) more)
+    omega (arith, full_word_within c.args.items.now c.loop-word.low c.loop-word.word c.loop-word-test.true i.listed i.marks)
 
 pub loop-word-smaller : goal.loop-word-smaller
 loop-word-smaller c =
     let i = c.loop-word.invariant in
-    let more : ListedBelow (c.loop-word.low + 64) c.args.items.now = full_word c.args.items.now c.loop-word.low c.loop-word.word c.loop-word-test.true i.listed i.marks in
-    omega (arith, room c.args.items.now (c.loop-word.low + 64) more)
+    omega (arith, full_word_within c.args.items.now c.loop-word.low c.loop-word.word c.loop-word-test.true i.listed i.marks)
 
 pub loop-word-preserved : goal.loop-word-preserved
 loop-word-preserved c =

@@ -1,20 +1,19 @@
 -- A program may improve a value exactly where its class is refused for it.
-use Rattle.std.proofs.Common.{◌≡◌, Bool, true, false, refl, sym, subst}
+use Rattle.std.proofs.Common.{◌≡◌, Bool, true, false, refl}
 use Rattle.std.specs.Prelude.{IsTrue, not, ◌↔◌}
 use Rattle.px_base.specs.declared.program.Program.{Program}
 use Rattle.px_base.specs.declared.program.CoreProgram.{CoreProgram}
-use Rattle.px_base.specs.Classes.{may_lower, may_raise}
 use Rattle.px_base.specs.Laws.{NeverImproves}
 use Rattle.value_laws.proofs.NeverImproving.{never_lower, never_raise}
 use Rattle.class_checker.specs.Gathering.{may_improve}
 
--- the test of the core form, by whether it is flipped
-never_by : (core : CoreProgram) (flipped : Bool) → core.flipped ≡ flipped → IsTrue (not (may_improve core)) ↔ NeverImproves core
-never_by core true turned = rw turned (never_raise core turned)
-never_by core false plain = rw plain (never_lower core plain)
+-- the test of a core program, by whether it is flipped
+never_by : (q : Program) (flipped : Bool) → IsTrue (not (may_improve (record { program = q; flipped = flipped }))) ↔ NeverImproves (record { program = q; flipped = flipped })
+never_by q true = never_raise (record { program = q; flipped = true }) refl
+never_by q false = never_lower (record { program = q; flipped = false }) refl
 
-pub never : (core : CoreProgram) → IsTrue (not (may_improve core)) ↔ NeverImproves core
-never core = never_by core core.flipped refl
+never : (core : CoreProgram) → IsTrue (not (may_improve core)) ↔ NeverImproves core
+never core = never_by core.program core.flipped
 
 off : (b : Bool) → IsTrue (not b) → b ≡ false
 off true h = cc

@@ -1,0 +1,3 @@
+pub mod FirstAbsent
+pub mod LeastGrows
+pub mod NeverImproving

@@ -14,6 +14,7 @@ use Rattle.edge_reader.specs.Scans.{scanned}
 abbrev pub newline_pieces : List ℕ → List (List ℕ)
 newline_pieces text = pieces_at (λ b. b == 10) text
 
+-- the last piece
 abbrev pub last_of : List (List ℕ) → List ℕ
 last_of [] = []
 last_of (piece ∷ []) = piece

@@ -13,11 +13,12 @@ use Rattle.edge_reader.specs.declared.scan.Said.TheVariants.{Skipped, Edge, Miss
 abbrev pub with_digit : ℕ → ℕ → Option ℕ
 with_digit number byte = if is_ascii_digit byte then (if nat_lt (number * 10 + (byte - 48)) (2 ^ 32) then Some (number * 10 + (byte - 48)) else None) else None
 
--- the number with the digits of these bytes, where all are digits and it stays below 2 ^ 32
+-- what f makes of it, where there is something
 abbrev pub on_some : {X Y : Type 0} → Option X → (X → Option Y) → Option Y
 on_some None f = None
 on_some (Some x) f = f x
 
+-- the number with the digits of these bytes, where all are digits and it stays below 2 ^ 32
 abbrev pub with_digits : ℕ → List ℕ → Option ℕ
 with_digits n [] = Some n
 with_digits n (b ∷ bs) = on_some (with_digit n b) (λ m. with_digits m bs)

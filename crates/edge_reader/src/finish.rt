@@ -11,8 +11,8 @@ use crate::places::place_ends;
 use px_base::{Edge, EdgeList, Items, Memory};
 use std::alloc::Global;
 
-/// The most vertices.
-const MOST_VERTICES: usize = 1 << 22;
+/// The most vertices, as a length.
+const MOST_VERTICES: usize = px_base::MOST_VERTICES as usize;
 
 /// The edges whose ends stand side by side.
 #[tactic(auto, using(px_base::proofs::Positions::by_position_more))]

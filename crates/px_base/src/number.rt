@@ -26,8 +26,8 @@ pub fn read_number(text: &[u8], max: u64) -> Result<u64, NumberFault>
     number_of_digits(text, max)
 }
 
-#[tactic(auto, using(crate::proofs::Numbers::digits_end_is))]
 /// The place of the first byte that is no digit, or the length.
+#[tactic(auto, using(crate::proofs::Numbers::digits_end_is))]
 fn digits_end(text: &[u8]) -> usize
     ensures at { result ≡ digits_end text.now }
     ensures within { result ≤ length text.now }

@@ -21,7 +21,7 @@ use Rattle.px_base.specs.Values.{IsValue, IsValueList}
 use Rattle.px_base.proofs.WorldsKeep.{updated_fit}
 use Rattle.worker_world.specs.declared.places.PlacedRead.{PlacedRead}
 use Rattle.worker_world.specs.Placed.{master_count, place_in, placed_read, placed_row, placed_rows, gathered, mirrors_after, IsUpdated}
-use Rattle.worker_world.proofs.Listed.{rises_from_zero}
+use Rattle.px_base.proofs.Listed.{rises_from_zero}
 
 -- a part that fits has at most as many mirrors as there are vertices
 pub mirror_count : (part : Part) → PartFits part → length part.mirrors ≤ 2 ^ 22

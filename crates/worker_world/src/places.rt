@@ -5,7 +5,7 @@ ghost use Rattle.px_base.specs.Graphs.{HasWeights};
 ghost use Rattle.px_base.specs.Parts.{PartFits, is_known};
 ghost use Rattle.worker_world.specs.Placed.{master_count, place_in, placed_row, placed_rows};
 
-use px_base::{Items, Memory, Part, Pos, Read};
+use px_base::{Items, Memory, Part, Pos, Read, find_place};
 use std::alloc::Global;
 
 /// A read by place: in the list of all values the masters of a part stand first, in order, and then its mirrors.
@@ -13,18 +13,6 @@ use std::alloc::Global;
 pub struct PlacedRead {
     pub place: u32,
     pub weight: u32,
-}
-
-/// Where a position stands in a rising list, if it does.
-pub fn find_place(positions: &[Pos], u: Pos) -> Option<usize>
-    requires { IsStrictlyIncreasing positions.now }
-    ensures some { IfSome result (λ at. (at ≡ place_of positions.now u) × (at < length positions.now) × (is_listed positions.now u ≡ true)) }
-    ensures none { IfNone result (is_listed positions.now u ≡ false) }
-{
-    match positions.binary_search(&u) {
-        Ok(at) => Some(at),
-        Err(_) => None,
-    }
 }
 
 /// The place of a position that is in the rising list.

@@ -1,10 +1,12 @@
 ghost use Rattle.std.specs.Prelude.{◌≡◌};
 
 use crate::known::Known;
-use crate::places::{find_place, master_count};
+use crate::places::master_count;
 use crate::steps::copy_of;
 use crate::values::bfs_core;
-use px_base::{Answer, CoreProgram, Items, Memory, Order, Part, Pos, StepFault, Update, Value};
+use px_base::{
+    Answer, CoreProgram, Items, Memory, Order, Part, Pos, StepFault, Update, Value, find_place,
+};
 use std::alloc::Global;
 use std::marker::Model;
 use std::thread::Threads;

@@ -1,6 +1,6 @@
 use Rattle.std.proofs.Common.{Ok, Err}
-use Rattle.worker_world.proofs.Listed.{found_place}
-use Rattle.worker_world.proofs.places.find_place.Goals as goal
+use Rattle.px_base.proofs.Listed.{found_place}
+use Rattle.px_base.proofs.places.find_place.Goals as goal
 
 pub returns-in-Ok-clause-some : goal.returns-in-Ok-clause-some
 returns-in-Ok-clause-some c = found_place c.args.positions.now c.args.u (Ok c.in-Ok.at) c.requires c.in-Ok.ensures.position

@@ -1,0 +1,7 @@
+use Rattle.std.proofs.Common.{◌∙◌}
+use Rattle.px_base.specs.Rows.{row_fields, words_at}
+use Rattle.program_table.proofs.Shapes.{along_like}
+use Rattle.program_table.proofs.row_reading.read_along.Goals as goal
+
+pub returns-clause-said : goal.returns-clause-said
+returns-clause-said c = c.along_of.ensures.said ∙ along_like c.field_words.result (words_at (row_fields c.args.row.now) 4) c.field_words.ensures

@@ -1,0 +1,51 @@
+use Rattle.std.proofs.Common.{Bool, ap, ◌∙◌, subst}
+use Rattle.px_frames.specs.Decodings.{Fed, fed_more, Keeps}
+use Rattle.px_frames.proofs.Decoders.{keeps_torn_on, takes_torn, takes_sound}
+use Rattle.px_frames.proofs.Keeping.{keeps_more}
+use Rattle.px_frames.proofs.decoder.Decoder.feed.Goals as goal
+
+pub invariant_of-self : goal.invariant_of-self
+invariant_of-self c =
+    rw c.note_fed.ensures
+    (keeps_torn_on c.self.inside.history c.self.inside.pending.items c.self.inside.waiting.items c.self.inside.whole c.self.inside.torn c.if-self.true c.self.invariant c.args.piece.now)
+
+pub returns-then-self : goal.returns-then-self
+returns-then-self c =
+    let kept : Keeps c.note_fed.new.history c.self.inside.pending.items c.self.inside.waiting.items c.self.inside.whole c.self.inside.torn =
+    rw c.note_fed.ensures (keeps_torn_on c.self.inside.history c.self.inside.pending.items c.self.inside.waiting.items c.self.inside.whole c.self.inside.torn c.if-self.true c.self.invariant c.args.piece.now) in
+    takes_torn c.args.self.now c.note_fed.new.history c.args.piece.now c.self.inside.pending.items c.self.inside.waiting.items c.self.inside.whole c.self.inside.torn c.if-self.true kept
+    (c.note_fed.ensures ∙ ap (λ (x : Fed). fed_more x c.args.piece.now) c.self.view_is)
+
+pub invariant_of-self-then-scanned : goal.invariant_of-self-then-scanned
+invariant_of-self-then-scanned c =
+    rw (c.note_fed-in-Ok.ensures, c.in-Ok.ensures.rest, c.counted-self-inside.ensures)
+    (keeps_more c.self.inside.history c.self.inside.pending.items c.self.inside.waiting.items c.self.inside.whole
+    (subst (λ (t : Bool). Keeps c.self.inside.history c.self.inside.pending.items c.self.inside.waiting.items c.self.inside.whole t) c.if-self.false c.self.invariant)
+    c.args.piece.now c.take_in.new.waiting.items c.in-Ok.scanned.at c.in-Ok.scanned.torn c.in-Ok.ensures.ok)
+
+pub returns-then-scanned : goal.returns-then-scanned
+returns-then-scanned c =
+    let kept : Keeps c.note_fed-in-Ok.new.history c.take_in.new.pending.items c.take_in.new.waiting.items c.counted-self-inside.result c.in-Ok.scanned.torn =
+    rw (c.note_fed-in-Ok.ensures, c.in-Ok.ensures.rest, c.counted-self-inside.ensures)
+    (keeps_more c.self.inside.history c.self.inside.pending.items c.self.inside.waiting.items c.self.inside.whole
+    (subst (λ (t : Bool). Keeps c.self.inside.history c.self.inside.pending.items c.self.inside.waiting.items c.self.inside.whole t) c.if-self.false c.self.invariant)
+    c.args.piece.now c.take_in.new.waiting.items c.in-Ok.scanned.at c.in-Ok.scanned.torn c.in-Ok.ensures.ok) in
+    takes_torn c.args.self.now c.note_fed-in-Ok.new.history c.args.piece.now c.take_in.new.pending.items c.take_in.new.waiting.items c.counted-self-inside.result c.in-Ok.scanned.torn c.if-scanned.true kept
+    (c.note_fed-in-Ok.ensures ∙ ap (λ (x : Fed). fed_more x c.args.piece.now) c.self.view_is)
+
+pub invariant_of-self-in-Ok : goal.invariant_of-self-in-Ok
+invariant_of-self-in-Ok c =
+    rw (c.note_fed-in-Ok.ensures, c.in-Ok.ensures.rest, c.counted-self-inside.ensures)
+    (keeps_more c.self.inside.history c.self.inside.pending.items c.self.inside.waiting.items c.self.inside.whole
+    (subst (λ (t : Bool). Keeps c.self.inside.history c.self.inside.pending.items c.self.inside.waiting.items c.self.inside.whole t) c.if-self.false c.self.invariant)
+    c.args.piece.now c.take_in.new.waiting.items c.in-Ok.scanned.at c.in-Ok.scanned.torn c.in-Ok.ensures.ok)
+
+pub returns-else-scanned : goal.returns-else-scanned
+returns-else-scanned c =
+    let kept : Keeps c.note_fed-in-Ok.new.history c.take_in.new.pending.items c.take_in.new.waiting.items c.counted-self-inside.result c.in-Ok.scanned.torn =
+    rw (c.note_fed-in-Ok.ensures, c.in-Ok.ensures.rest, c.counted-self-inside.ensures)
+    (keeps_more c.self.inside.history c.self.inside.pending.items c.self.inside.waiting.items c.self.inside.whole
+    (subst (λ (t : Bool). Keeps c.self.inside.history c.self.inside.pending.items c.self.inside.waiting.items c.self.inside.whole t) c.if-self.false c.self.invariant)
+    c.args.piece.now c.take_in.new.waiting.items c.in-Ok.scanned.at c.in-Ok.scanned.torn c.in-Ok.ensures.ok) in
+    takes_sound c.args.self.now c.note_fed-in-Ok.new.history c.args.piece.now c.take_in.new.pending.items c.take_in.new.waiting.items c.counted-self-inside.result c.in-Ok.scanned.torn c.if-scanned.false kept
+    (c.note_fed-in-Ok.ensures ∙ ap (λ (x : Fed). fed_more x c.args.piece.now) c.self.view_is)

@@ -1,6 +1,6 @@
 -- No frame's spelling begins another's.
 use Rattle.std.proofs.Common.{◌≡◌, ℕ, ◌^◌, ◌<◌, List, [], ◌∷◌, ◌++◌, length, take, drop, get_or, append_assoc, sym, ap, refl, ◌∙◌, arith}
-use Rattle.std.specs.Prelude.{flat_map}
+use Rattle.std.specs.Prelude.{flat_map, All}
 use Rattle.std.specs.List.{AllByRecursion}
 use Rattle.std.specs.Int.{w32, from_be_bytes}
 use Rattle.std.proofs.lemmas.List.{take_at, drop_at}
@@ -9,17 +9,11 @@ use Rattle.std.proofs.lemmas.Nat.{from_be_bytes-to_be_bytes_4}
 use Rattle.px_base.specs.declared.frame.Frame.{Frame}
 use Rattle.px_base.specs.Frames.{kind_of, body_of, spelling}
 use Rattle.px_base.specs.FrameFits.{FrameFits, Spells, AreFramesOf}
-use Rattle.px_frames.proofs.Lengths.{body_small}
-use Rattle.px_frames.proofs.Rooms.{room}
-use Rattle.px_frames.proofs.Unspelled.{frame_from, back}
+use Rattle.frame_bodies.proofs.Candidates.{same_frame}
+use Rattle.frame_bodies.proofs.Lengths.{body_small}
 
 pub one_spelling : (f : Frame) (a b : List ℕ) → Spells f a → Spells f b → a ≡ b
 one_spelling f a b h k = h.1 ∙ sym k.1
-
--- one kind and one body are one frame
-pub same_frame : (f g : Frame) → FrameFits f → FrameFits g → kind_of f ≡ kind_of g → body_of f ≡ body_of g → f ≡ g
-same_frame f g hf hg kinds bodies =
-    sym (back f (room f hf)) ∙ ap (λ (k : ℕ). frame_from k (body_of f)) kinds ∙ ap (λ (b : List ℕ). frame_from (kind_of g) b) bodies ∙ back g (room g hg)
 
 pub spellings_apart : (f g : Frame) (xs ys : List ℕ) → FrameFits f → FrameFits g → spelling f ++ xs ≡ spelling g ++ ys → (f ≡ g) × (xs ≡ ys)
 spellings_apart f g xs ys hf hg e =
@@ -54,3 +48,19 @@ readings (f ∷ fs) (g ∷ gs) r s hf hg nr ns e =
 pub one_reading : (bytes rest more : List ℕ) (fs gs : List Frame) → AreFramesOf bytes fs rest → AreFramesOf bytes gs more → (fs ≡ gs) × (rest ≡ more)
 one_reading bytes rest more fs gs a b =
     readings fs gs rest more (recursion_from_All FrameFits fs a.fit) (recursion_from_All FrameFits gs b.fit) a.no_more b.no_more (sym a.whole ∙ b.whole)
+
+longest_by : (fs gs : List Frame) (r s : List ℕ) → AllByRecursion FrameFits fs → AllByRecursion FrameFits gs → HasNone r
+    → flat_map spelling fs ++ r ≡ flat_map spelling gs ++ s → (others : List Frame) × (fs ≡ gs ++ others)
+longest_by fs [] r s hf hg none e = (fs, refl)
+longest_by [] (g ∷ gs) r s hf hg none e = absurd (none g (flat_map spelling gs ++ s) hg.0 (e ∙ append_assoc (spelling g) (flat_map spelling gs) s))
+longest_by (f ∷ fs) (g ∷ gs) r s hf hg none e =
+    let first = spellings_apart f g (flat_map spelling fs ++ r) (flat_map spelling gs ++ s) hf.0 hg.0
+    (sym (append_assoc (spelling f) (flat_map spelling fs) r) ∙ e ∙ append_assoc (spelling g) (flat_map spelling gs) s) in
+    let others = longest_by fs gs r s hf.1 hg.1 none first.1 in
+    (others.0, ap (λ (x : Frame). x ∷ fs) first.0 ∙ ap (λ (xs : List Frame). g ∷ xs) others.1)
+
+-- all other frames that bytes begin with are the first of these
+pub longest : (bytes rest more : List ℕ) (fs gs : List Frame) → AreFramesOf bytes fs rest → All FrameFits gs → bytes ≡ flat_map spelling gs ++ more
+    → (others : List Frame) × (fs ≡ gs ++ others)
+longest bytes rest more fs gs a fit e =
+    longest_by fs gs rest more (recursion_from_All FrameFits fs a.fit) (recursion_from_All FrameFits gs fit) a.no_more (sym a.whole ∙ e)

@@ -7,7 +7,8 @@ use Rattle.px_base.specs.declared.frame.Frame.{Frame}
 use Rattle.px_base.specs.FrameFits.{AreFramesOf, IsTorn, is_right_header, word_at}
 use Rattle.px_frames.specs.Decodings.{Fed, fed_more, took_more, Keeps}
 use Rattle.px_frames.specs.Feeds.{Takes, TakesTorn}
-use Rattle.px_frames.specs.Fronts.{IsWhole, IsBody}
+use Rattle.px_frames.specs.Fronts.{IsWhole}
+use Rattle.frame_bodies.specs.Bodies.{IsBody}
 use Rattle.px_frames.proofs.Headers.{spelled, kind_spelled, body_spelled}
 use Rattle.px_frames.proofs.Keeping.{keeps_torn, keeps_rest, sound_of, torn_of, empty_if_between}
 

@@ -11,7 +11,7 @@ use Rattle.px_base.specs.declared.frame.Frame.TheVariants as frame
 use Rattle.px_base.specs.Frames.{four_bytes, kind_of, body_of, spelling}
 use Rattle.px_base.specs.FrameFits.{FrameFits, Spells, word_at, is_right_header, IsTorn}
 use Rattle.px_frames.specs.Decodings.{IsShort}
-use Rattle.px_frames.proofs.Lengths.{body_small}
+use Rattle.frame_bodies.proofs.Lengths.{body_small}
 
 pub kind_small : (f : Frame) → (1 ≤ kind_of f) × (kind_of f ≤ 10)
 kind_small (frame.Setup s) = (omega arith, omega arith)

@@ -151,3 +151,16 @@ pub empty_if_between : (fed : Fed) (pending : List ℕ) (waiting : List Frame) (
 empty_if_between fed pending waiting whole h p =
     let same = one_reading fed.bytes h.rest [] (h.taken ++ waiting) p.0 h.are p.1 in
     sym (h.sound refl).0 ∙ same.1
+
+-- torn bytes are torn at one place
+pub same_place : (fed : Fed) (pending : List ℕ) (waiting : List Frame) (whole : ℕ) (torn : Bool) → torn ≡ true → Keeps fed pending waiting whole torn
+    → (at : ℕ) → IsTornAt fed.bytes at → whole ≡ at
+same_place fed pending waiting whole torn e h at t =
+    let same = one_reading fed.bytes h.rest t.reading.rest (h.taken ++ waiting) t.reading.frames h.are t.reading.are in
+    h.count ∙ ap counted_bytes same.0 ∙ sym t.place
+
+pub never_torn : (fed : Fed) (pending : List ℕ) (waiting : List Frame) (whole : ℕ) (torn : Bool) → torn ≡ false → Keeps fed pending waiting whole torn
+    → (at : ℕ) → IsTornAt fed.bytes at → ⊥
+never_torn fed pending waiting whole torn e h at t =
+    let same = one_reading fed.bytes h.rest t.reading.rest (h.taken ++ waiting) t.reading.frames h.are t.reading.are in
+    (h.sound e).1 (subst IsTorn (sym same.1) t.torn)

@@ -1,12 +1,5 @@
 pub mod Apart
-pub mod Candidates
 pub mod Decoders
-pub mod Fields
 pub mod Headers
 pub mod Keeping
-pub mod Lengths
 pub mod Reading
-pub mod ReadNumbers
-pub mod Rising
-pub mod Rooms
-pub mod Unspelled

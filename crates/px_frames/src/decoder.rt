@@ -1,7 +1,7 @@
-ghost use Rattle.std.specs.Prelude.{◌≡◌, ◌+◌, ◌^◌, ◌≤◌, min, true, false, ◌↔◌, [], ◌++◌, List, IsTrue, IfOk, OnErr, MatchResult, drop, is_some, if◌then◌else◌, vec_len};
+ghost use Rattle.std.specs.Prelude.{◌≡◌, ℕ, ◌+◌, ◌^◌, ◌≤◌, min, true, false, ◌↔◌, [], ◌++◌, List, IsTrue, Err, IfOk, OnErr, MatchResult, drop, is_some, if◌then◌else◌, vec_len};
 ghost use Rattle.px_base.specs.declared.frame.Frame.{Frame as FrameData};
 ghost use Rattle.px_base.specs.FrameFits.{AreFramesOf};
-ghost use Rattle.px_frames.specs.Decodings.{nothing_fed, fed_more, took_more, Scans, Keeps, IsOldest, IsCount};
+ghost use Rattle.px_frames.specs.Decodings.{nothing_fed, fed_more, took_more, Scans, Keeps, IsTornAt, IsOldest, IsCount};
 ghost use Rattle.px_frames.specs.Feeds.{Takes, Refuses};
 
 use crate::front::{Front, read_front};
@@ -59,12 +59,18 @@ fn scan(alloc: Global, bytes: &[u8], waiting: &mut VecDeque<Frame>) -> Result<Sc
     }
 }
 
-/// Drops so many bytes in front.
+/// Drops so many bytes in front. Where there are none, none is moved: bytes that come one by one must not be gone over
+/// each time.
 fn drop_front(pending: &mut Vec<u8>, at: usize)
     requires { at ≤ vec_len pending.old }
     ensures { pending.new.items ≡ drop at pending.old.items }
 {
-    drop(pending.drain(..at));
+    if at == 0 {
+        return;
+    }
+    let left = pending.len() - at;
+    pending.copy_within(at.., 0);
+    pending.truncate(left);
 }
 
 /// Takes the piece after the bytes that are pending. An `Err` leaves all as it was.
@@ -154,9 +160,11 @@ impl Decoder {
 
     /// Takes the next piece of the bytes. The frames are those of all bytes so far, however they were cut. `Torn` comes
     /// where a whole header that no frame has follows the whole frames, or a header with its whole body that no frame
-    /// spells. Then it comes for good, and the frames before it can still be taken. After `Memory` the piece isn't taken.
+    /// spells. Then it comes at each later piece too, and takes no memory; the frames before it can still be taken. After
+    /// `Memory` the piece isn't taken.
     pub fn feed(&mut self, piece: &[u8]) -> Result<(), FeedFault>
-        ensures { MatchResult result (λ _. Takes self.old piece.now self.new) (λ fault. Refuses self.old piece.now self.new fault) }
+        ensures fed { MatchResult result (λ _. Takes self.old piece.now self.new) (λ fault. Refuses self.old piece.now self.new fault) }
+        ensures again { (at : ℕ) → IsTornAt self.old.bytes at → result ≡ Err (FeedFault.Torn at) }
     {
         if self.torn {
             note_fed(&mut self.history, piece);

@@ -2,9 +2,8 @@ ghost use Rattle.std.specs.Prelude.{◌≡◌, ◌+◌, ◌≤◌, IfOk, length}
 ghost use Rattle.px_base.specs.FrameFits.{word_at, is_right_header};
 ghost use Rattle.px_frames.specs.Fronts.{IsFront};
 
-use crate::body::read_body;
-use crate::codes::{REPORTED, SETUP};
 use crate::write::{HEADER, MARK, VERSION};
+use frame_bodies::{REPORTED, SETUP, read_body};
 use px_base::{Frame, Memory};
 use std::alloc::Global;
 

@@ -1,4 +1,4 @@
-use Rattle.px_frames.proofs.Apart.{spellings_apart, one_reading}
+use Rattle.px_frames.proofs.Apart.{spellings_apart, one_reading, longest}
 use Rattle.px_frames.proofs.laws.spellings_are_apart.Goals as goal
 
 pub returns-clause-apart : goal.returns-clause-apart
@@ -6,3 +6,6 @@ returns-clause-apart c = spellings_apart
 
 pub returns-clause-reading : goal.returns-clause-reading
 returns-clause-reading c = one_reading
+
+pub returns-clause-longest : goal.returns-clause-longest
+returns-clause-longest c = longest

@@ -1,7 +1,8 @@
-use Rattle.std.proofs.Common.{Bool, ap, ◌∙◌, subst}
+use Rattle.std.proofs.Common.{ℕ, Bool, Err, ap, ◌∙◌, subst}
+use Rattle.px_frames.specs.declared.decoder.FeedFault.TheVariants as fault
 use Rattle.px_frames.specs.Decodings.{Fed, fed_more, Keeps}
 use Rattle.px_frames.proofs.Decoders.{keeps_torn_on, takes_torn, takes_sound}
-use Rattle.px_frames.proofs.Keeping.{keeps_more}
+use Rattle.px_frames.proofs.Keeping.{keeps_more, same_place, never_torn}
 use Rattle.px_frames.proofs.decoder.Decoder.feed.Goals as goal
 
 pub invariant_of-self : goal.invariant_of-self
@@ -9,8 +10,8 @@ invariant_of-self c =
     rw c.note_fed.ensures
     (keeps_torn_on c.self.inside.history c.self.inside.pending.items c.self.inside.waiting.items c.self.inside.whole c.self.inside.torn c.if-self.true c.self.invariant c.args.piece.now)
 
-pub returns-then-self : goal.returns-then-self
-returns-then-self c =
+pub returns-then-self-clause-fed : goal.returns-then-self-clause-fed
+returns-then-self-clause-fed c =
     let kept : Keeps c.note_fed.new.history c.self.inside.pending.items c.self.inside.waiting.items c.self.inside.whole c.self.inside.torn =
     rw c.note_fed.ensures (keeps_torn_on c.self.inside.history c.self.inside.pending.items c.self.inside.waiting.items c.self.inside.whole c.self.inside.torn c.if-self.true c.self.invariant c.args.piece.now) in
     takes_torn c.args.self.now c.note_fed.new.history c.args.piece.now c.self.inside.pending.items c.self.inside.waiting.items c.self.inside.whole c.self.inside.torn c.if-self.true kept
@@ -23,8 +24,8 @@ invariant_of-self-then-scanned c =
     (subst (λ (t : Bool). Keeps c.self.inside.history c.self.inside.pending.items c.self.inside.waiting.items c.self.inside.whole t) c.if-self.false c.self.invariant)
     c.args.piece.now c.take_in.new.waiting.items c.in-Ok.scanned.at c.in-Ok.scanned.torn c.in-Ok.ensures.ok)
 
-pub returns-then-scanned : goal.returns-then-scanned
-returns-then-scanned c =
+pub returns-then-scanned-clause-fed : goal.returns-then-scanned-clause-fed
+returns-then-scanned-clause-fed c =
     let kept : Keeps c.note_fed-in-Ok.new.history c.take_in.new.pending.items c.take_in.new.waiting.items c.counted-self-inside.result c.in-Ok.scanned.torn =
     rw (c.note_fed-in-Ok.ensures, c.in-Ok.ensures.rest, c.counted-self-inside.ensures)
     (keeps_more c.self.inside.history c.self.inside.pending.items c.self.inside.waiting.items c.self.inside.whole
@@ -40,8 +41,8 @@ invariant_of-self-in-Ok c =
     (subst (λ (t : Bool). Keeps c.self.inside.history c.self.inside.pending.items c.self.inside.waiting.items c.self.inside.whole t) c.if-self.false c.self.invariant)
     c.args.piece.now c.take_in.new.waiting.items c.in-Ok.scanned.at c.in-Ok.scanned.torn c.in-Ok.ensures.ok)
 
-pub returns-else-scanned : goal.returns-else-scanned
-returns-else-scanned c =
+pub returns-else-scanned-clause-fed : goal.returns-else-scanned-clause-fed
+returns-else-scanned-clause-fed c =
     let kept : Keeps c.note_fed-in-Ok.new.history c.take_in.new.pending.items c.take_in.new.waiting.items c.counted-self-inside.result c.in-Ok.scanned.torn =
     rw (c.note_fed-in-Ok.ensures, c.in-Ok.ensures.rest, c.counted-self-inside.ensures)
     (keeps_more c.self.inside.history c.self.inside.pending.items c.self.inside.waiting.items c.self.inside.whole
@@ -49,3 +50,19 @@ returns-else-scanned c =
     c.args.piece.now c.take_in.new.waiting.items c.in-Ok.scanned.at c.in-Ok.scanned.torn c.in-Ok.ensures.ok) in
     takes_sound c.args.self.now c.note_fed-in-Ok.new.history c.args.piece.now c.take_in.new.pending.items c.take_in.new.waiting.items c.counted-self-inside.result c.in-Ok.scanned.torn c.if-scanned.false kept
     (c.note_fed-in-Ok.ensures ∙ ap (λ (x : Fed). fed_more x c.args.piece.now) c.self.view_is)
+
+pub returns-then-self-clause-again : goal.returns-then-self-clause-again
+returns-then-self-clause-again c =
+    rw (← c.self.view_is) (λ at h. ap (λ (n : ℕ). Err (fault.Torn n)) (same_place c.self.inside.history c.self.inside.pending.items c.self.inside.waiting.items c.self.inside.whole c.self.inside.torn c.if-self.true c.self.invariant at h))
+
+pub returns-then-scanned-clause-again : goal.returns-then-scanned-clause-again
+returns-then-scanned-clause-again c =
+    rw (← c.self.view_is) (λ at h. absurd (never_torn c.self.inside.history c.self.inside.pending.items c.self.inside.waiting.items c.self.inside.whole c.self.inside.torn c.if-self.false c.self.invariant at h))
+
+pub returns-else-scanned-clause-again : goal.returns-else-scanned-clause-again
+returns-else-scanned-clause-again c =
+    rw (← c.self.view_is) (λ at h. absurd (never_torn c.self.inside.history c.self.inside.pending.items c.self.inside.waiting.items c.self.inside.whole c.self.inside.torn c.if-self.false c.self.invariant at h))
+
+pub returns-in-Err-clause-again : goal.returns-in-Err-clause-again
+returns-in-Err-clause-again c =
+    rw (← c.self.view_is) (λ at h. absurd (never_torn c.self.inside.history c.self.inside.pending.items c.self.inside.waiting.items c.self.inside.whole c.self.inside.torn c.if-self.false c.self.invariant at h))

@@ -1,0 +1,4 @@
+pub mod Below
+pub mod Reaching
+pub mod Sweeping
+pub mod Turning

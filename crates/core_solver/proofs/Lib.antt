@@ -1,0 +1,4 @@
+pub mod Counting
+pub mod CoreExists
+pub mod MutualReads
+pub mod Peeled

@@ -1,10 +1,1 @@
-pub mod Announced
-pub mod Bounds
-pub mod Halves
-pub mod GrowingText
-pub mod Ranges
-pub mod Renewals
-pub mod Solving
-pub mod Sources
-pub mod Stepping
-pub mod InStep
+pub mod Stopped

@@ -1,36 +1,44 @@
-ghost use Rattle.std.specs.Prelude.{◌≡◌, ◌≢◌, ◌≤◌, ◌∷◌, [], IfSome, IsTrue, None};
-ghost use Rattle.px_base.specs.Programs.{bfs};
+ghost use Rattle.std.specs.Prelude.{◌≡◌, ◌≢◌, ◌≤◌, false, true, IfErr, IfOk, IsTrue, Err, None};
 ghost use Rattle.px_io.specs.Causes.{Rose};
-ghost use Rattle.phoenix_cli.specs.Commands.{bfs_source};
-ghost use Rattle.phoenix_cli.specs.Runs.{is_run_status, IsRunOf};
-ghost use Rattle.phoenix_cli.specs.Stops.{outcome_status};
+ghost use Rattle.command_texts.specs.Solutions.{is_decided};
+ghost use Rattle.command_texts.specs.Jobs.{JobFits, plan_of, reads_source};
+ghost use Rattle.command_words.specs.CommandWords.{command_of};
+ghost use Rattle.phoenix_cli.specs.Calls.{IsCallOf, IsRunOf, is_status, status_of};
 
-use crate::solve::bfs_text;
-use crate::stop::{Stop, report, stop_status};
-use crate::words::bfs_source;
-use px_base::{Id, Words};
+use command_ends::{Stop, report, stop_status};
+use command_texts::{Job, job_text, plan};
+use command_words::read_command;
+use px_base::{Memory, Words};
 use px_io::{PutFault, Sink, Source, put_all};
 use std::alloc::Global;
 use std::thread::Threads;
 
-/// Reads the source, and writes the answer of `bfs` from the vertex with this id.
-fn run_bfs<R: Threads + Sync, S: Source, K: Sink>(
+/// Finds the text of the job, and writes it.
+fn follow<R: Threads + Sync, S: Source, K: Sink>(
     rt: &R,
     alloc: Global,
-    id: Id,
+    plan: Result<Job, Stop>,
     source: &mut S,
     sink: &mut K,
 ) -> Result<(), Stop>
-    ensures run { IsRunOf bfs (id ∷ []) (outcome_status result) (S.left source.old) (S.left source.new) (K.written sink.old) (K.written sink.new) }
-    ensures read_fault { outcome_status result ≡ 6 → Rose (S.faults source.old) (S.faults source.new) }
-    ensures write_fault { outcome_status result ≡ 7 → Rose (K.faults sink.old) (K.faults sink.new) }
-    ensures no_words { outcome_status result ≡ 2 → ⊥ }
-    ensures no_fault { outcome_status result ≢ 6 → S.faults source.new ≡ S.faults source.old }
-    ensures untouched { outcome_status result ≢ 0 → outcome_status result ≢ 7 → outcome_status result ≢ 11 → sink.new ≡ sink.old }
+    requires fits { IfOk plan (λ job. JobFits job) }
+    requires decided { IfErr plan (λ why. IsTrue (is_decided why)) }
+    ensures run { IsRunOf plan result (S.left source.old) (S.left source.new) (K.written sink.old) (K.written sink.new) }
+    ensures stopped { IfErr plan (λ why. result ≡ Err why) }
+    ensures unread { reads_source plan ≡ false → source.new ≡ source.old }
+    ensures reads { status_of result ≡ 6 → reads_source plan ≡ true }
+    ensures read_fault { status_of result ≡ 6 → Rose (S.faults source.old) (S.faults source.new) }
+    ensures write_fault { status_of result ≡ 7 → Rose (K.faults sink.old) (K.faults sink.new) }
+    ensures no_fault { status_of result ≢ 6 → S.faults source.new ≡ S.faults source.old }
+    ensures untouched { status_of result ≢ 0 → status_of result ≢ 7 → status_of result ≢ 11 → sink.new ≡ sink.old }
     ensures source_later { S.faults source.old ≤ S.faults source.new }
     ensures sink_later { K.faults sink.old ≤ K.faults sink.new }
 {
-    let text = match bfs_text(rt, alloc, id, source) {
+    let job = match plan {
+        Ok(job) => job,
+        Err(stop) => return Err(stop),
+    };
+    let text = match job_text(rt, alloc, &job, source) {
         Ok(text) => text,
         Err(stop) => return Err(stop),
     };
@@ -41,37 +49,38 @@ fn run_bfs<R: Threads + Sync, S: Source, K: Sink>(
     }
 }
 
-/// Reads the words, and then runs.
-fn run<R: Threads + Sync, S: Source, K: Sink>(
+/// Reads the words, and then does what they ask for.
+fn perform<R: Threads + Sync, S: Source, K: Sink>(
     rt: &R,
     alloc: Global,
     words: &Words,
     source: &mut S,
     sink: &mut K,
 ) -> Result<(), Stop>
-    ensures known { IsTrue (is_run_status (outcome_status result)) }
-    ensures words { outcome_status result ≡ 2 → bfs_source words.now ≡ None }
-    ensures no_words { bfs_source words.now ≡ None → outcome_status result ≡ 2 }
-    ensures unread { bfs_source words.now ≡ None → source.new ≡ source.old }
-    ensures no_fault { outcome_status result ≢ 6 → S.faults source.new ≡ S.faults source.old }
-    ensures untouched { outcome_status result ≢ 0 → outcome_status result ≢ 7 → outcome_status result ≢ 11 → sink.new ≡ sink.old }
-    ensures run { IfSome (bfs_source words.now) (λ id.
-        IsRunOf bfs (id ∷ []) (outcome_status result) (S.left source.old) (S.left source.new) (K.written sink.old) (K.written sink.new)) }
-    ensures read_fault { outcome_status result ≡ 6 → Rose (S.faults source.old) (S.faults source.new) }
-    ensures write_fault { outcome_status result ≡ 7 → Rose (K.faults sink.old) (K.faults sink.new) }
+    ensures known { IsTrue (is_status (status_of result)) }
+    ensures words { command_of words.now ≡ None → result ≡ Err Stop.BadWords }
+    ensures run { IsRunOf (plan_of (command_of words.now)) result (S.left source.old) (S.left source.new) (K.written sink.old) (K.written sink.new) }
+    ensures unread { reads_source (plan_of (command_of words.now)) ≡ false → source.new ≡ source.old }
+    ensures reads { status_of result ≡ 6 → reads_source (plan_of (command_of words.now)) ≡ true }
+    ensures read_fault { status_of result ≡ 6 → Rose (S.faults source.old) (S.faults source.new) }
+    ensures write_fault { status_of result ≡ 7 → Rose (K.faults sink.old) (K.faults sink.new) }
+    ensures no_fault { status_of result ≢ 6 → S.faults source.new ≡ S.faults source.old }
+    ensures untouched { status_of result ≢ 0 → status_of result ≢ 7 → status_of result ≢ 11 → sink.new ≡ sink.old }
     ensures source_later { S.faults source.old ≤ S.faults source.new }
     ensures sink_later { K.faults sink.old ≤ K.faults sink.new }
 {
-    match bfs_source(words) {
-        Some(id) => run_bfs(rt, alloc, id, source, sink),
-        None => Err(Stop::BadWords),
+    match read_command(alloc, words) {
+        Ok(command) => follow(rt, alloc, plan(command), source, sink),
+        Err(Memory) => Err(Stop::Memory),
     }
 }
 
-/// `run bfs SOURCE` over the words. The bytes of the source are the edge list; the sink gets the answer, one line for each
-/// vertex by rising id; where there is none, `faults` gets one line that says why. Answers the status to exit with: 0
-/// where the answer is written whole, 2 for other words, 3 for a line outside the grammar, 5 where a limit is passed, 6 and
-/// 7 where the source or the sink failed, 11 where memory was wanting, 12 where no edge line has the SOURCE.
+/// Does what the words ask for. The source gives the edge list, and is read only where a command needs one; the sink gets
+/// the text of the command; where there is none, `faults` gets one line that says why. Answers the status to exit with: 0
+/// where the text is written whole; 2 for words that no command has, and for sources where the program starts from none or
+/// none where it needs some; 3 for a line outside the grammar; 4 for a program that is none, is refused, or can't be run
+/// yet; 5 where a limit is passed; 6 and 7 where the source or the sink failed; 11 where memory was wanting; 12 where no
+/// edge line has a source.
 pub fn phoenix<R: Threads + Sync, S: Source, K: Sink, F: Sink>(
     rt: &R,
     alloc: Global,
@@ -80,34 +89,36 @@ pub fn phoenix<R: Threads + Sync, S: Source, K: Sink, F: Sink>(
     sink: &mut K,
     faults: &mut F,
 ) -> u8
-    ensures known { IsTrue (is_run_status result) }
+    ensures known { IsTrue (is_status result) }
 
-    // 2 comes exactly where the words aren't `run`, `bfs` and one SOURCE: telling words apart takes no memory, and reads
-    // nothing.
-    ensures words { result ≡ 2 → bfs_source words.now ≡ None }
-    ensures no_words { bfs_source words.now ≡ None → result ≡ 2 }
-    ensures unread { bfs_source words.now ≡ None → source.new ≡ source.old }
+    // The status is that of an outcome of the plan that the words make, on the bytes of the source. 0 has written the whole
+    // text of the ending, 7 and 11 a prefix of it, and the others nothing; they come just where the words and the input
+    // say so, but for 6, 7 and 11. The line on `faults` says why.
+    ensures call { IsCallOf (plan_of (command_of words.now)) result (S.left source.old) (S.left source.new) (K.written sink.old) (K.written sink.new)
+        (F.written faults.old) (F.written faults.new) (F.faults faults.old) (F.faults faults.new) (F.wants faults.old) (F.wants faults.new) }
 
-    // Only an answer goes to the sink, and `faults` is left alone with it.
+    // Telling words apart takes no memory, so words that no command has are 2 always.
+    ensures words { command_of words.now ≡ None → result ≡ 2 }
+
+    // What isn't needed is left alone: the source where the plan reads none, the sink without a text, `faults` with 0.
+    ensures unread { reads_source (plan_of (command_of words.now)) ≡ false → source.new ≡ source.old }
     ensures untouched { result ≢ 0 → result ≢ 7 → result ≢ 11 → sink.new ≡ sink.old }
     ensures silent { result ≡ 0 → faults.new ≡ faults.old }
 
-    // 0, 3, 5 and 12 come exactly where the bytes say so, but for 6, 7 and 11. 0 writes the text of the answer, and
-    // 7 and 11 write a prefix of it.
-    ensures run { IfSome (bfs_source words.now) (λ id.
-        IsRunOf bfs (id ∷ []) result (S.left source.old) (S.left source.new) (K.written sink.old) (K.written sink.new)) }
-
-    // 6 and 7: the source or the sink failed in this call. A source that failed is never asked again, and no count falls.
+    // 6 and 7: the source, which the plan reads, or the sink failed in this call. A source that failed is never asked
+    // again, and no count falls.
+    ensures reads { result ≡ 6 → reads_source (plan_of (command_of words.now)) ≡ true }
     ensures read_fault { result ≡ 6 → Rose (S.faults source.old) (S.faults source.new) }
     ensures no_fault { result ≢ 6 → S.faults source.new ≡ S.faults source.old }
     ensures write_fault { result ≡ 7 → Rose (K.faults sink.old) (K.faults sink.new) }
     ensures source_later { S.faults source.old ≤ S.faults source.new }
     ensures sink_later { K.faults sink.old ≤ K.faults sink.new }
+    ensures faults_later { F.faults faults.old ≤ F.faults faults.new }
 {
-    match run(rt, alloc, words, source, sink) {
+    match perform(rt, alloc, words, source, sink) {
         Ok(()) => 0,
         Err(stop) => {
-            let _ = report(faults, stop);
+            report(faults, stop);
             stop_status(stop)
         }
     }

@@ -1,4 +1,4 @@
-pub mod Foreign
 pub mod Placing
+pub mod Stamping
 pub mod Taken
 pub mod Updates

@@ -1,26 +1,28 @@
 -- Values by place.
-use Rattle.std.proofs.Common.{◌≡◌, ℕ, zero, suc, ◌+◌, ◌-◌, ◌<◌, ◌≤◌, ◌^◌, Bool, true, false, List, [], ◌∷◌, ◌++◌, length, length-append, length-take, length-drop, get_or, take, drop, map, refl, sym, subst, arith}
-use Rattle.std.specs.Prelude.{◌==◌, ◌||◌, All, slice_index, if◌then◌else◌, IsFalse}
+use Rattle.std.proofs.Common.{◌≡◌, ℕ, zero, suc, ◌+◌, ◌-◌, ◌<◌, ◌≤◌, ◌^◌, Bool, true, false, List, [], ◌∷◌, ◌++◌, length, length-append, length-take, length-drop, get_or, take, drop, map, refl, sym, ap, subst, arith, ◌∙◌}
+use Rattle.std.specs.Prelude.{◌==◌, ◌||◌, All, slice_index, replicate, if◌then◌else◌, IsFalse, IsTrue}
 use Rattle.std.proofs.lemmas.Bool.Decides.{nat_tests}
-use Rattle.std.proofs.lemmas.List.{take-append-drop, get_or-take, get_or-drop, get_or-map, length-map}
+use Rattle.std.proofs.lemmas.List.{take-append-drop, get_or-take, get_or-drop, get_or-map, length-map, length-replicate}
 use Rattle.std.proofs.lemmas.List.Elements.{All-append, All-take}
 use Rattle.std.proofs.Math.Seq.{take-append_seam, drop-append_seam}
 use Rattle.px_base.specs.declared.graph.Part.{Part}
 use Rattle.px_base.specs.declared.graph.Read.{Read}
 use Rattle.px_base.specs.declared.program.CoreProgram.{CoreProgram}
 use Rattle.px_base.specs.Values.{is_listed, place_of}
-use Rattle.px_base.specs.Classes.{is_mex}
-use Rattle.px_base.specs.Core.{core_edge_value, core_pull}
+use Rattle.px_base.specs.Classes.{is_mex, keeps, counts_reads}
+use Rattle.px_base.specs.Core.{core_edge_value, core_gather, core_pull}
+use Rattle.px_base.specs.Rules.{least, mex}
 use Rattle.px_base.specs.Parts.{PartFits, is_within, is_known}
 use Rattle.px_base.specs.Pulls.{known_value, master_pull}
-use Rattle.px_base.specs.Graphs.{row_at}
+use Rattle.px_base.specs.Graphs.{row_at, read_count, HasWeights}
 use Rattle.px_base.specs.ValueSteps.{renewed_value}
-use Rattle.px_base.specs.Worlds.{CarriesValues}
+use Rattle.px_base.specs.Worlds.{CarriesValues, ValueWorld, ValueWorldFits, new_value_world, new_world, of_values}
+use Rattle.worker_world.specs.Kept.{KeepsLimits}
 use Rattle.px_base.specs.declared.wire.Update.{Update}
 use Rattle.px_base.specs.Values.{IsValue, IsValueList}
-use Rattle.px_base.proofs.WorldsKeep.{updated_fit}
+use Rattle.px_base.proofs.WorldsKeep.{updated_fit, new_world_fits}
 use Rattle.worker_world.specs.declared.places.PlacedRead.{PlacedRead}
-use Rattle.worker_world.specs.Placed.{master_count, place_in, placed_read, placed_row, placed_rows, gathered, mirrors_after, IsUpdated}
+use Rattle.worker_world.specs.Placed.{master_count, place_in, placed_read, placed_row, placed_rows, placed_items, first_values, mirrors_after, IsUpdated}
 use Rattle.px_base.proofs.Listed.{rises_from_zero}
 
 -- a part that fits has at most as many mirrors as there are vertices
@@ -69,14 +71,21 @@ place_within part u known = by_range (is_within part.low part.high u) refl known
 -- ---- one row
 
 same_items : (part : Part) (core : CoreProgram) (values : List ℕ) (row : List Read) →
-    map (λ r. core_edge_value core (slice_index values r.place) r.weight) (placed_row part row)
+    placed_items core values (placed_row part row)
     ≡ map (λ r. core_edge_value core (known_value part (take (master_count part) values) (drop (master_count part) values) r.source) r.weight) row
 same_items part core values [] = refl
 same_items part core values (r ∷ row) = rw (value_at_place part values r.source, same_items part core values row) refl
 
-pub gathered_is : (part : Part) (core : CoreProgram) (values : List ℕ) (start : ℕ) (row : List Read) → IsFalse (is_mex core.program.fold) →
-    gathered core values start (placed_row part row) ≡ core_pull core (known_value part (take (master_count part) values) (drop (master_count part) values)) start row
-gathered_is part core values start row least_only = rw (least_only, same_items part core values row) refl
+-- what the row gathers, where what it reads is found by place
+pub gathered_is : (part : Part) (core : CoreProgram) (values : List ℕ) (start : ℕ) (row : List Read) →
+    core_gather core start (placed_items core values (placed_row part row)) ≡ core_pull core (known_value part (take (master_count part) values) (drop (master_count part) values)) start row
+gathered_is part core values start row = ap (core_gather core start) (same_items part core values row)
+
+pub least_gathers : (core : CoreProgram) (start : ℕ) (items : List ℕ) → IsFalse (is_mex core.program.fold) → least start items ≡ core_gather core start items
+least_gathers core start items fold = rw fold refl
+
+pub mex_gathers : (core : CoreProgram) (start : ℕ) (items : List ℕ) → IsTrue (is_mex core.program.fold) → mex items ≡ core_gather core start items
+mex_gathers core start items fold = rw fold refl
 
 pub places_within : (part : Part) (row : List Read) → All (λ r. is_known part r.source ≡ true) row → All (λ r. r.place < master_count part + length part.mirrors) (placed_row part row)
 places_within part row known = λ k d below. (let inside : k < length row = omega (arith, below, length-map row (placed_read part)) in
@@ -94,13 +103,14 @@ row_places_within part k d fits below =
     rw (row_by_place part k d inside) (places_within part (row_at part.rows k) (fits.sources k [] inside))
 
 -- a new value that is made by place
-pub renewed_by_place : (part : Part) (core : CoreProgram) (values : List ℕ) (k : ℕ) (d : List PlacedRead) → IsFalse (is_mex core.program.fold) → PartFits part → k < length (placed_rows part) →
-    renewed_value core (slice_index values k) (gathered core values (slice_index part.starts k) (get_or (placed_rows part) k d))
+pub renewed_by_place : (part : Part) (core : CoreProgram) (values : List ℕ) (k pulled : ℕ) (d : List PlacedRead) → PartFits part → k < length (placed_rows part) →
+    pulled ≡ core_gather core (slice_index part.starts k) (placed_items core values (get_or (placed_rows part) k d)) →
+    renewed_value core (slice_index values k) pulled
     ≡ renewed_value core (slice_index (take (master_count part) values) k) (master_pull part core (take (master_count part) values) (drop (master_count part) values) k)
-renewed_by_place part core values k d fold fits below =
+renewed_by_place part core values k pulled d fits below is =
     let inside : k < length part.rows = omega (arith, below, length-map part.rows (placed_row part)) in
     let first : k < master_count part = omega (arith, inside, fits.rows) in
-    rw (row_by_place part k d inside, gathered_is part core values (slice_index part.starts k) (row_at part.rows k) fold, get_or-take (master_count part) values k 0 first) refl
+    rw (is, row_by_place part k d inside, gathered_is part core values (slice_index part.starts k) (row_at part.rows k), get_or-take (master_count part) values k 0 first) refl
 
 -- ---- all values
 
@@ -130,3 +140,46 @@ updated_is part updates before after count carried known is =
 
 pub all_in_both : (m : ℕ) (values : List ℕ) → All IsValue (take m values) → All IsValue (drop m values) → All IsValue values
 all_in_both m values first rest = subst (λ list. All IsValue list) (take-append-drop m values) (All-append IsValue (take m values) (drop m values) first rest)
+
+-- ---- a new world
+
+length_first : (core : CoreProgram) (starts : List ℕ) → length (first_values core starts) ≡ length starts
+length_first core starts = by_own (keeps core.program.own)
+  where
+    by_own : (b : Bool) → length (if b then starts else replicate (length starts) 0) ≡ length starts
+    by_own true = refl
+    by_own false = length-replicate (length starts) 0
+
+pub first_count : (part : Part) (core : CoreProgram) → PartFits part → length (first_values core part.starts ++ first_values core part.mirror_starts) ≡ master_count part + length part.mirrors
+first_count part core fits = omega (arith, length-append (first_values core part.starts) (first_values core part.mirror_starts), length_first core part.starts, length_first core part.mirror_starts, fits.starts, fits.mirror_starts)
+
+-- a world of these values that has made no step
+abbrev pub fresh_world : Part → CoreProgram → List ℕ → ValueWorld
+fresh_world part core values = record {
+  part = part;
+  core = core;
+  epoch = 0;
+  round = 0;
+  masters = take (master_count part) values;
+  mirrors = drop (master_count part) values;
+}
+
+-- where its values are the first ones, it is the new world
+pub fresh_is_new : (part : Part) (core : CoreProgram) (values : List ℕ) → PartFits part → values ≡ first_values core part.starts ++ first_values core part.mirror_starts → fresh_world part core values ≡ new_value_world part core
+fresh_is_new part core values fits is =
+    let count : length (first_values core part.starts) ≡ master_count part = length_first core part.starts ∙ fits.starts in
+    let masters : take (master_count part) values ≡ first_values core part.starts = rw is (take_first (master_count part) (first_values core part.starts) (first_values core part.mirror_starts) count) in
+    let mirrors : drop (master_count part) values ≡ first_values core part.mirror_starts = rw is (drop_first (master_count part) (first_values core part.starts) (first_values core part.mirror_starts) count) in
+    rw (masters, mirrors) refl
+
+-- and keeps the limits
+pub fresh_keeps : (part : Part) (core : CoreProgram) (values : List ℕ) → PartFits part → HasWeights part.rows → read_count part.rows ≤ 2 ^ 25 →
+    values ≡ first_values core part.starts ++ first_values core part.mirror_starts → KeepsLimits (fresh_world part core values)
+fresh_keeps part core values fits weights reads is = record {
+  fits = subst (λ w. ValueWorldFits w) (sym (fresh_is_new part core values fits is)) (new_world_fits part core fits weights);
+  reads = reads;
+}
+
+-- what is no count makes a world of values
+pub value_kind : (part : Part) (core : CoreProgram) → IsFalse (counts_reads core.program.fold) → new_world part core ≡ of_values (new_value_world part core)
+value_kind part core fold = rw fold refl

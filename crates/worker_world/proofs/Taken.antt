@@ -1,11 +1,11 @@
 -- What a Step comes to where it isn't refused.
-use Rattle.std.proofs.Common.{◌≡◌, ℕ, zero, suc, ◌≤◌, ◌<◌, Bool, true, false, List, [], ◌∷◌, length, get_or, refl, arith, Some, None}
-use Rattle.std.specs.Prelude.{All, IsTrue, nat_lt, Ok, option_map, find, not, if◌then◌else◌}
+use Rattle.std.proofs.Common.{◌≡◌, ℕ, ◌≤◌, Bool, false, List, refl, arith, None}
+use Rattle.std.specs.Prelude.{nat_lt, Ok}
 use Rattle.std.proofs.lemmas.Bool.Decides.{nat_tests}
 use Rattle.px_base.specs.declared.wire.Update.{Update}
 use Rattle.px_base.specs.declared.wire.Order.TheVariants.{Step}
 use Rattle.px_base.specs.declared.wire.Answer.TheVariants.{Stepped}
-use Rattle.px_base.specs.Worlds.{ValueWorld, of_values, takes_update, first_foreign, foreign, is_fresh}
+use Rattle.px_base.specs.Worlds.{ValueWorld, of_values, takes_update, first_foreign, is_fresh}
 use Rattle.px_base.specs.ValueSteps.{value_step, updated_mirrors, renewed_masters, some_changed, announcements}
 use Rattle.px_base.specs.WorldSteps.{world_step}
 
@@ -21,17 +21,3 @@ pub step_made : (w : ValueWorld) (epoch round : ℕ) (updates : List Update) (mi
 step_made w epoch round updates mirrors masters changed announced later taken new_mirrors new_masters is_changed is_announced =
     let late : nat_lt epoch w.epoch ≡ false = not_earlier epoch w.epoch later in
     rw (value_step, late, taken, is_announced, is_changed, new_masters, new_mirrors) refl
-
--- each update is of a vertex that is taken, where none is foreign
-pub all_taken : (takes : ℕ → Bool) (updates : List Update) → first_foreign takes updates ≡ None → All (λ u. IsTrue (takes u.vertex)) updates
-all_taken takes [] none = λ k d below. absurd (omega arith)
-all_taken takes (u ∷ us) none = by_first (takes u.vertex) refl none (all_taken takes us)
-  where
-    by_first : (b : Bool) → takes u.vertex ≡ b → option_map (λ v. foreign v.vertex) (if not b then Some u else find (λ v. not (takes v.vertex)) us) ≡ None →
-        (first_foreign takes us ≡ None → All (λ v. IsTrue (takes v.vertex)) us) → All (λ v. IsTrue (takes v.vertex)) (u ∷ us)
-    by_first true is none rest = at_each
-      where
-        at_each : (k : ℕ) (d : Update) → k < length (u ∷ us) → IsTrue (takes (get_or (u ∷ us) k d).vertex)
-        at_each zero d below = is
-        at_each (suc k) d below = rest none k d (omega arith)
-    by_first false is none rest = cc

@@ -1,4 +1,6 @@
 pub mod ByPlace
 pub mod Kept
+pub mod Kinds
 pub mod Placed
+pub mod Stamped
 pub mod Views

@@ -1,13 +1,13 @@
 -- The reads of a part by place, in one list of values: its masters stand first, in order, and then its mirrors.
-use Rattle.std.specs.Prelude.{◌≡◌, All, length, ℕ, ◌+◌, ◌-◌, List, map, slice_index, take, drop, if◌then◌else◌}
+use Rattle.std.specs.Prelude.{◌≡◌, All, length, ℕ, ◌+◌, ◌-◌, List, map, slice_index, replicate, take, drop, if◌then◌else◌}
 use Rattle.px_base.specs.declared.graph.Part.{Part}
 use Rattle.px_base.specs.declared.graph.Read.{Read}
 use Rattle.px_base.specs.declared.program.CoreProgram.{CoreProgram}
 use Rattle.px_base.specs.Values.{IsValue, place_of}
+use Rattle.px_base.specs.Classes.{keeps}
 use Rattle.px_base.specs.Core.{core_edge_value}
 use Rattle.px_base.specs.Parts.{is_within}
 use Rattle.px_base.specs.declared.wire.Update.{Update}
-use Rattle.px_base.specs.Rules.{least}
 use Rattle.px_base.specs.ValueSteps.{updated_mirrors, renewed_masters}
 use Rattle.worker_world.specs.declared.places.PlacedRead.{PlacedRead}
 
@@ -30,9 +30,13 @@ placed_row part row = map (placed_read part) row
 abbrev pub placed_rows : Part → List (List PlacedRead)
 placed_rows part = map (placed_row part) part.rows
 
--- what a row gathers by the least, where the list has the values of all masters and mirrors
-abbrev pub gathered : CoreProgram → List ℕ → ℕ → List PlacedRead → ℕ
-gathered core values start row = least start (map (λ r. core_edge_value core (slice_index values r.place) r.weight) row)
+-- the core edge values of a row, where the list has the values of all masters and mirrors
+abbrev pub placed_items : CoreProgram → List ℕ → List PlacedRead → List ℕ
+placed_items core values row = map (λ r. core_edge_value core (slice_index values r.place) r.weight) row
+
+-- what each master or mirror has in a new world that has these start values
+abbrev pub first_values : CoreProgram → List ℕ → List ℕ
+first_values core starts = if keeps core.program.own then starts else replicate (length starts) 0
 
 -- the values of the mirrors after the updates, and those of the masters after a renewal from them
 abbrev pub mirrors_after : Part → List Update → List ℕ → List ℕ

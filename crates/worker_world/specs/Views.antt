@@ -1,8 +1,8 @@
 -- What the fields of a world mean.
-use Rattle.std.specs.Prelude.{take, drop}
+use Rattle.std.specs.Prelude.{◌≤◌, take, drop}
 use Rattle.px_base.specs.Worlds.{World, of_values, ValueWorld}
-use Rattle.worker_world.specs.declared.world.World.TheInside.{Inside}
-use Rattle.worker_world.specs.Kept.{KeepsLeast}
+use Rattle.worker_world.specs.declared.value_world.ValueWorld.TheInside.{Inside}
+use Rattle.worker_world.specs.Kept.{KeepsLimits}
 use Rattle.worker_world.specs.ByPlace.{IsByPlace}
 use Rattle.worker_world.specs.Placed.{master_count}
 
@@ -23,5 +23,6 @@ world_of w = of_values (values_of w)
 
 -- what the fields keep
 pub record IsKept (w : Inside) : Type 0 where
-  pub world : KeepsLeast (values_of w)
-  pub placed : IsByPlace w.part w.known
+  pub world : KeepsLimits (values_of w)
+  pub placed : IsByPlace w.part w.core w.known
+  pub chunks : (1 ≤ w.chunks) × (w.chunks ≤ 64)

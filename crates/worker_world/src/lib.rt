@@ -1,11 +1,13 @@
-//! A worker's world over values: its part of the graph, and the core value of each master and each mirror.
+//! A worker's world: its part of the graph, and the core value of each master and each mirror, or what counting workers
+//! keep.
 #![tactic(auto)]
 
 mod known;
 mod places;
 mod pulls;
+mod stamps;
 mod steps;
-mod values;
+mod value_world;
 mod world;
 
 pub use px_base::StepFault;

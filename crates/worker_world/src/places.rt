@@ -1,4 +1,4 @@
-ghost use Rattle.std.specs.Prelude.{◌≡◌, ◌<◌, ◌≤◌, ◌+◌, ◌-◌, true, false, All, IfOk, IfSome, IfNone, IsTrue, length};
+ghost use Rattle.std.specs.Prelude.{◌≡◌, ◌<◌, ◌≤◌, ◌+◌, ◌-◌, true, All, IfOk, IsTrue, length};
 ghost use Rattle.std.specs.List.Sorted.{IsStrictlyIncreasing};
 ghost use Rattle.px_base.specs.Values.{IsWeight, is_listed, place_of};
 ghost use Rattle.px_base.specs.Graphs.{HasWeights};
@@ -80,4 +80,15 @@ pub fn placed_rows(alloc: Global, part: &Part) -> Result<Vec<Items<PlacedRead>>,
         placed.push(placed_row(alloc, part, row.as_slice())?)?;
     }
     Ok(placed)
+}
+
+/// The most reads that a row has.
+pub fn longest(rows: &[Items<PlacedRead>]) -> usize
+    ensures { All (λ row. length row ≤ result) rows.now }
+{
+    let mut most = 0;
+    for row in rows {
+        most = row.as_slice().len().max(most);
+    }
+    most
 }

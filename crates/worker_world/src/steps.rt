@@ -1,13 +1,13 @@
-ghost use Rattle.std.specs.Prelude.{◌≡◌, ◌∷◌, [], ◌++◌, ◌<◌, ◌≤◌, ◌+◌, ◌-◌, All, IfOk, IsTrue, length, take, drop, vec_len, vec_capacity};
+ghost use Rattle.std.specs.Prelude.{◌≡◌, ◌++◌, ◌≤◌, ◌+◌, ◌-◌, ◌||◌, All, IfOk, IsTrue, length, take, drop};
 ghost use Rattle.std.specs.List.Sorted.{IsStrictlyIncreasing};
 ghost use Rattle.px_base.specs.Values.{IsValue, is_listed};
-ghost use Rattle.px_base.specs.Parts.{PartFits};
+ghost use Rattle.px_base.specs.Parts.{PartFits, is_within};
 ghost use Rattle.px_base.specs.Worlds.{CarriesValues};
-ghost use Rattle.px_base.specs.ValueSteps.{announcements, some_changed, updated_mirrors};
-ghost use Rattle.worker_world.specs.Placed.{master_count, IsUpdated};
+ghost use Rattle.px_base.specs.ValueSteps.{announcements, has_changed, some_changed, updated_mirrors};
+ghost use Rattle.worker_world.specs.Placed.{master_count, first_values, IsUpdated};
 
 use crate::places::{master_count, place_of};
-use px_base::{Memory, Part, Pos, Update, Value};
+use px_base::{CoreProgram, Memory, Own, Part, Pos, Update, Value};
 use std::alloc::Global;
 
 /// A copy of the values.
@@ -18,12 +18,25 @@ pub fn copy_of(alloc: Global, values: &[Value]) -> Result<Vec<Value>, Memory>
 }
 
 /// The values of all masters, and then those of all mirrors.
-pub fn joined(alloc: Global, masters: &[Value], mirrors: &[Value]) -> Result<Vec<Value>, Memory>
+fn joined(alloc: Global, masters: &[Value], mirrors: &[Value]) -> Result<Vec<Value>, Memory>
     ensures { IfOk result (λ values. values.items ≡ masters.now ++ mirrors.now) }
 {
     let mut values = copy_of(alloc, masters)?;
     values.extend_from_slice(mirrors)?;
     Ok(values)
+}
+
+/// The values that a new world has, those of all masters first: the start values, or 0 where the program drops what a
+/// vertex had.
+pub fn first_values(alloc: Global, core: &CoreProgram, part: &Part) -> Result<Vec<Value>, Memory>
+    requires { PartFits part.now }
+    ensures { IfOk result (λ values. values.items ≡ first_values core.now part.now.starts ++ first_values core.now part.now.mirror_starts) }
+{
+    let (starts, mirrors) = (part.starts.as_slice(), part.mirror_starts.as_slice());
+    match core.program.own {
+        Own::Keep => joined(alloc, starts, mirrors),
+        Own::Drop => Ok(vec![in alloc; 0; starts.len() + mirrors.len()]?),
+    }
 }
 
 /// Puts the updates in place, each at its mirror.
@@ -62,6 +75,14 @@ pub fn update_mirrors(part: &Part, updates: &[Update], values: &mut Vec<Value>)
     update_after(part.mirrors.as_slice(), updates, master_count(part), values);
 }
 
+/// Writes the values over a list of as many.
+pub fn put_copy(values: &[Value], list: &mut Vec<Value>)
+    requires { length list.old.items ≡ length values.now }
+    ensures { list.new.items ≡ values.now }
+{
+    list.as_mut_slice().copy_from_slice(values);
+}
+
 fn put_first(values: &[Value], list: &mut [Value])
     requires { length values.now ≤ length list.old }
     ensures { list.new ≡ values.now ++ drop (length values.now) list.old }
@@ -88,38 +109,54 @@ pub fn some_changed(before: &[Value], after: &[Value]) -> bool
     (0..after.len()).any(|k| before[k] != after[k])
 }
 
-/// Adds an update where there is room for it.
-fn put(updates: &mut Vec<Update>, update: Update)
-    requires { vec_len updates.old < vec_capacity updates.old }
-    ensures items { updates.new.items ≡ updates.old.items ++ update ∷ [] }
-    ensures room { vec_capacity updates.old ≤ vec_capacity updates.new }
+/// Whether a master of the boundary is announced.
+fn is_announced(all: bool, part: &Part, before: &[Value], after: &[Value], v: Pos) -> bool
+    requires within { IsTrue (is_within part.now.low part.now.high v) }
+    requires before { length before.now ≡ part.now.high - part.now.low }
+    requires after { length after.now ≡ part.now.high - part.now.low }
+    ensures { result ≡ (all || has_changed before.now after.now (v - part.now.low)) }
 {
-    let _ = updates.push(update);
+    let k = (v - part.low) as usize;
+    all || before[k] != after[k]
 }
 
-/// Adds the boundary masters that changed, or all of them, with their values. There is room for all.
-pub fn announce(
+/// How many are announced.
+fn announced_count(all: bool, part: &Part, before: &[Value], after: &[Value]) -> usize
+    requires fits { PartFits part.now }
+    requires before { length before.now ≡ part.now.high - part.now.low }
+    requires after { length after.now ≡ part.now.high - part.now.low }
+{
+    let mut count: usize = 0;
+    for v in part.boundary.as_slice() {
+        if is_announced(all, part, before, after, *v) {
+            count += 1;
+        }
+    }
+    count
+}
+
+/// The boundary masters that changed, or all of them, with their values.
+pub fn announcements(
+    alloc: Global,
     all: bool,
     part: &Part,
     before: &[Value],
     after: &[Value],
-    updates: &mut Vec<Update>,
-)
+) -> Result<Vec<Update>, Memory>
     requires fits { PartFits part.now }
     requires before { length before.now ≡ part.now.high - part.now.low }
     requires after { length after.now ≡ part.now.high - part.now.low }
-    requires empty { updates.old.items ≡ [] }
-    requires room { length part.now.boundary ≤ vec_capacity updates.old }
-    ensures { updates.new.items ≡ announcements all part.now before.now after.now }
+    ensures { IfOk result (λ updates. updates.items ≡ announcements all part.now before.now after.now) }
 {
+    let room = announced_count(all, part, before, after);
+    let mut updates = Vec::with_capacity(alloc, room)?;
     for v in part.boundary.as_slice() {
-        let k = (*v - part.low) as usize;
-        if all || before[k] != after[k] {
-            let update = Update {
+        if is_announced(all, part, before, after, *v) {
+            updates.push(Update {
                 vertex: *v,
-                value: after[k],
-            };
-            put(updates, update);
+                value: after[(*v - part.low) as usize],
+            })?;
         }
     }
+    Ok(updates)
 }

@@ -1,25 +1,22 @@
-ghost use Rattle.std.specs.Prelude.{◌≡◌};
-
-use crate::known::Known;
-use crate::places::master_count;
-use crate::steps::copy_of;
-use crate::values::bfs_core;
-use px_base::{
-    Answer, CoreProgram, Items, Memory, Order, Part, Pos, StepFault, Update, Value, find_place,
-};
+use crate::value_world::ValueWorld;
+use count_world::CountWorld;
+use px_base::{Answer, CoreProgram, Fold, Memory, Order, Part, StepFault, Value};
 use std::alloc::Global;
 use std::marker::Model;
 use std::thread::Threads;
 
-/// A worker's part of the graph, how far it has come, and the core value of each of its masters and mirrors.
+/// A world of either kind.
+#[derive(Drop)]
+enum Kind {
+    Values(ValueWorld),
+    Counts(CountWorld),
+}
+
+/// A worker's part of the graph, how far it has come, and what it knows of its vertices: the core value of each master and
+/// mirror, or which masters are alive and how many living neighbours each of them counts.
 #[derive(Drop)]
 pub struct World {
-    alloc: Global,
-    part: Part,
-    core: CoreProgram,
-    epoch: u32,
-    round: u64,
-    known: Known,
+    kind: Kind,
 }
 
 impl Model for World {
@@ -27,154 +24,66 @@ impl Model for World {
 
     ghost Value = { WorldData };
 
-    ghost use Rattle.worker_world.specs.Views.{world_of, IsKept};
+    ghost use Rattle.worker_world.specs.Kinds.{world_of};
 
-    ghost view = { world_of };
-
-    ghost invariant = { IsKept };
+    ghost view = { λ w. world_of w.kind };
 }
 
 impl World {
-    ghost use Rattle.std.specs.Prelude.{◌≡◌, ◌≤◌, ◌^◌, ℕ, Some, None, Ok, OnErr, IfOk, IfErr, IfSome, IfNone};
+    ghost use Rattle.std.specs.Prelude.{◌≡◌, ◌≤◌, ◌^◌, Ok, OnErr, IfOk, IfErr};
     ghost use Rattle.px_base.specs.Graphs.{HasWeights, read_count};
     ghost use Rattle.px_base.specs.Parts.{PartFits};
-    ghost use Rattle.px_base.specs.Programs.{bfs_core};
+    ghost use Rattle.px_base.specs.Core.{core_form};
     ghost use Rattle.px_base.specs.Steps.{Refuses};
-    ghost use Rattle.px_base.specs.Worlds.{new_world, masters_of, epoch_of, takes_update, updates_in, CarriesValues, is_fresh, first_foreign, foreign};
+    ghost use Rattle.px_base.specs.Worlds.{new_world, masters_of, updates_in, CarriesValues};
     ghost use Rattle.px_base.specs.WorldSteps.{world_step};
-    ghost use Rattle.worker_world.specs.Kept.{KeepsValues};
+    ghost use Rattle.worker_world.specs.Kept.{KeepsWorld};
 
-    /// The new world of a part: each master and each mirror has its start value. Errors: want of memory.
-    pub fn new(alloc: Global, part: Part) -> Result<World, Memory>
+    /// The new world of a part for a program. Where it counts, all masters are alive, and each counts its whole row. Else
+    /// each master and each mirror has its start value where the program keeps what a vertex had, and core value 0 where it
+    /// drops it. `chunks` is kept, and has no effect yet. Errors: want of memory.
+    pub fn new(alloc: Global, part: Part, core: CoreProgram, chunks: u32) -> Result<World, Memory>
         requires fits { PartFits part }
         requires weights { HasWeights part.rows }
         requires reads { read_count part.rows ≤ 2 ^ 25 }
-        ensures { IfOk result (λ w. w ≡ new_world part bfs_core) }
+        requires core { core ≡ core_form core.program }
+        requires chunks { (1 ≤ chunks) × (chunks ≤ 64) }
+        ensures { IfOk result (λ w. w ≡ new_world part core) }
     {
-        let known = Known::new(alloc, &part)?;
-        Ok(World {
-            alloc,
-            part,
-            core: bfs_core(),
-            epoch: 0,
-            round: 0,
-            known,
-        })
+        let kind = match core.program.fold {
+            Fold::Count(k) => Kind::Counts(CountWorld::new(alloc, part, k)?),
+            Fold::Least => Kind::Values(ValueWorld::new(alloc, part, core, chunks)?),
+            Fold::Greatest => Kind::Values(ValueWorld::new(alloc, part, core, chunks)?),
+            Fold::Mex => Kind::Values(ValueWorld::new(alloc, part, core, chunks)?),
+        };
+        Ok(World { kind })
     }
 
-    /// The core values of the masters, by position from the part's first on.
+    /// What the world reports of its masters, by position from the part's first on: their core values, or 1 for alive and 0
+    /// for dead.
     pub fn masters(&self) -> &[Value]
         ensures values { result.now ≡ masters_of self.now }
-        ensures kept { KeepsValues self.now }
+        ensures kept { KeepsWorld self.now }
     {
-        &self.known.values[..master_count(&self.part)]
+        match &self.kind {
+            Kind::Values(world) => world.masters(),
+            Kind::Counts(world) => world.masters(),
+        }
     }
 
-    /// One step. A Step of the world's epoch or a later one puts its updates in place and renews all masters at once; a
-    /// Report of the world's epoch is answered by the values of all masters. Errors: the epoch doesn't go with the
-    /// world's, an update is of a vertex that is no mirror, want of memory. An error changes nothing.
+    /// One step. A Step of the world's epoch or a later one puts its updates in place and renews all masters at once, or takes
+    /// its updates off the counts and lets masters die; a Report of the world's epoch is answered by what the world reports of
+    /// all masters. Errors: the epoch doesn't go with the world's, an update is of a vertex of which the world takes none, want
+    /// of memory. An error changes nothing.
     pub fn step<R: Threads + Sync>(&mut self, _rt: &R, order: &Order) -> Result<Answer, StepFault>
         requires values { CarriesValues (updates_in order.now) }
         ensures ok { IfOk result (λ answer. world_step self.old order.now ≡ Ok (record { world = self.new; answer = answer })) }
         ensures refused { IfErr result (λ fault. Refuses fault (world_step self.old order.now)) }
         ensures kept { OnErr result (self.new ≡ self.old) }
     {
-        match order {
-            Order::Report { epoch } => self.report(*epoch),
-            Order::Step {
-                epoch,
-                round,
-                updates,
-            } => self.advance(*epoch, *round, updates.as_slice()),
+        match &mut self.kind {
+            Kind::Values(world) => world.step(order),
+            Kind::Counts(world) => world.step(order),
         }
-    }
-
-    fn epoch(&self) -> u32
-        ensures { result ≡ epoch_of self.now }
-    {
-        self.epoch
-    }
-
-    fn report(&self, epoch: u32) -> Result<Answer, StepFault>
-        ensures ok { IfOk result (λ answer. world_step self.now (Order.Report epoch) ≡ Ok (record { world = self.now; answer = answer })) }
-        ensures refused { IfErr result (λ fault. Refuses fault (world_step self.now (Order.Report epoch))) }
-    {
-        if epoch != self.epoch {
-            return Err(StepFault::WrongEpoch {
-                had: self.epoch,
-                got: epoch,
-            });
-        }
-        let values = copy_of(self.alloc, self.masters())?;
-        Ok(Answer::Reported {
-            epoch,
-            values: Items::from_vec(values),
-        })
-    }
-
-    /// Whether the world takes an update of this vertex.
-    fn takes(&self, v: Pos) -> bool
-        ensures { result ≡ takes_update self.now v }
-    {
-        find_place(self.part.mirrors.as_slice(), v).is_some()
-    }
-
-    /// The first vertex of an update that isn't taken.
-    #[tactic(auto, using(crate::proofs::Foreign::foreign_at, crate::proofs::Foreign::none_foreign))]
-    fn foreign_vertex(&self, updates: &[Update]) -> Option<Pos>
-        ensures some { IfSome result (λ v. first_foreign (takes_update self.now) updates.now ≡ Some (foreign v)) }
-        ensures none { IfNone result (first_foreign (takes_update self.now) updates.now ≡ None) }
-    {
-        for update in updates {
-            if !self.takes(update.vertex) {
-                return Some(update.vertex);
-            }
-        }
-        None
-    }
-
-    /// A Step of any epoch.
-    #[tactic(auto, using(crate::proofs::Foreign::step_refused, crate::proofs::Foreign::step_taken))]
-    fn advance(&mut self, epoch: u32, round: u64, updates: &[Update]) -> Result<Answer, StepFault>
-        requires { CarriesValues updates.now }
-        ensures ok { IfOk result (λ answer. world_step self.old (Order.Step epoch round updates.now) ≡ Ok (record { world = self.new; answer = answer })) }
-        ensures refused { IfErr result (λ fault. Refuses fault (world_step self.old (Order.Step epoch round updates.now))) }
-        ensures kept { OnErr result (self.new ≡ self.old) }
-    {
-        let had = self.epoch();
-        if epoch < had {
-            return Err(StepFault::WrongEpoch { had, got: epoch });
-        }
-        if let Some(vertex) = self.foreign_vertex(updates) {
-            return Err(StepFault::Foreign { vertex });
-        }
-        match self.renew(epoch, round, updates) {
-            Ok(answer) => Ok(answer),
-            Err(Memory) => Err(StepFault::Memory),
-        }
-    }
-
-    /// A Step that isn't refused. The answer's room is reserved before anything changes, and nothing else wants memory.
-    #[tactic(auto, using(crate::proofs::Taken::all_taken, crate::proofs::Placing::all_in_both))]
-    fn renew(&mut self, epoch: u32, round: u64, updates: &[Update]) -> Result<Answer, Memory>
-        requires epoch { epoch_of self.old ≤ epoch }
-        requires taken { first_foreign (takes_update self.old) updates.now ≡ None }
-        requires values { CarriesValues updates.now }
-        ensures ok { IfOk result (λ answer. world_step self.old (Order.Step epoch round updates.now) ≡ Ok (record { world = self.new; answer = answer })) }
-        ensures kept { OnErr result (self.new ≡ self.old) }
-    {
-        let room = self.part.boundary.as_slice().len();
-        let mut announced = Vec::with_capacity(self.alloc, room)?;
-        let fresh = self.epoch < epoch;
-        let (part, core) = (&self.part, &self.core);
-        let changed = self.known.renew(part, core, fresh, updates, &mut announced);
-        self.epoch = epoch;
-        self.round = round;
-        Ok(Answer::Stepped {
-            epoch,
-            round,
-            changed,
-            updates: Items::from_vec(announced),
-        })
     }
 }

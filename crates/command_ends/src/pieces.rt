@@ -1,0 +1,20 @@
+ghost use Rattle.std.specs.Prelude.{◌≡◌, ◌≤◌, OnOk, OnErr, Err, flat_map};
+ghost use Rattle.std.specs.Io.KnownBytes.{Appends};
+ghost use Rattle.px_io.specs.Causes.{Rose, AppendsPrefix};
+
+use px_io::{PutFault, Sink, put_all};
+
+/// Appends the pieces one after another. After a fault a prefix of them is appended.
+pub fn put_pieces<K: Sink>(sink: &mut K, pieces: &[&[u8]]) -> Result<(), PutFault>
+    ensures ok { OnOk result (Appends (K.written sink.old) (K.written sink.new) (flat_map (λ piece. piece.now) pieces.now)) }
+    ensures err { OnErr result (AppendsPrefix (K.written sink.old) (K.written sink.new) (flat_map (λ piece. piece.now) pieces.now)) }
+    ensures failed { result ≡ Err PutFault.Failed → Rose (K.faults sink.old) (K.faults sink.new) }
+    ensures wanted { result ≡ Err PutFault.Memory → Rose (K.wants sink.old) (K.wants sink.new) }
+    ensures faults_later { K.faults sink.old ≤ K.faults sink.new }
+    ensures wants_later { K.wants sink.old ≤ K.wants sink.new }
+{
+    for piece in pieces {
+        put_all(sink, piece)?;
+    }
+    Ok(())
+}

@@ -1,0 +1,5 @@
+pub mod Endings
+pub mod Jobs
+pub mod Solutions
+pub mod Texts
+pub mod Ways

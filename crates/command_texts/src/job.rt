@@ -1,0 +1,164 @@
+ghost use Rattle.std.specs.Prelude.{◌≡◌, IfErr, IfOk, IfSome, IsTrue, Ok};
+ghost use Rattle.px_base.specs.declared.program.Class.TheVariants.{LocallyCorrecting};
+ghost use Rattle.px_base.specs.Classes.{class_of};
+ghost use Rattle.px_base.specs.RowTexts.{IsRowProgram};
+ghost use Rattle.px_base.specs.Starts.{needs_source};
+ghost use Rattle.command_words.specs.CommandFits.{CommandFits, ProgramFits};
+ghost use Rattle.command_texts.specs.Solutions.{is_decided};
+ghost use Rattle.command_texts.specs.Jobs.{JobFits, check_class, check_sources, job_of, plan_of, with_class};
+
+use class_checker::classify;
+use command_ends::Stop;
+use command_words::{Command, PartsCommand, ProgramFault, RunCommand, SolveCommand};
+use px_base::{Class, Id, Items, Program, Start};
+
+/// What is left to do of a command whose program has a class, and has sources exactly where it needs some.
+#[derive(Debug, PartialEq, Eq, Drop)]
+pub enum Job {
+    /// Solve by workers.
+    Run {
+        program: Program,
+        sources: Items<Id>,
+        workers: u32,
+    },
+    /// Solve plainly, on one thread.
+    Solve {
+        program: Program,
+        sources: Items<Id>,
+        unweighted: bool,
+    },
+    /// Tell the class.
+    Classify {
+        class: Class,
+    },
+    /// Count what each worker would have.
+    Parts {
+        program: Program,
+        workers: u32,
+        unweighted: bool,
+    },
+}
+
+/// Whether a program with this start is given sources.
+fn needs_source(start: Start) -> bool
+    ensures { result ≡ needs_source start }
+{
+    matches!(start, Start::Source(_, _))
+}
+
+/// The program with its class.
+fn with_class(named: Result<Program, ProgramFault>) -> Result<(Program, Class), Stop>
+    requires { ProgramFits named }
+    ensures class { result ≡ with_class named }
+    ensures fits { IfOk result (λ it. (class_of it.0 ≡ Ok it.1) × IsRowProgram it.0) }
+    ensures decided { IfErr result (λ why. IsTrue (is_decided why)) }
+{
+    match named {
+        Err(fault) => Err(Stop::Program(fault)),
+        Ok(program) => match classify(&program) {
+            Err(why) => Err(Stop::Refused(why)),
+            Ok(class) => Ok((program, class)),
+        },
+    }
+}
+
+/// Sources are given exactly where the program needs some.
+fn check_sources(program: &Program, sources: &[Id]) -> Result<(), Stop>
+    ensures sources { result ≡ check_sources program.now sources.now }
+    ensures decided { IfErr result (λ why. IsTrue (is_decided why)) }
+{
+    let needed = needs_source(program.start);
+    if needed && sources.is_empty() {
+        return Err(Stop::NeedsSource);
+    }
+    if !needed && !sources.is_empty() {
+        return Err(Stop::TakesNoSource);
+    }
+    Ok(())
+}
+
+/// `run` takes the programs that correct themselves locally.
+fn check_class(class: Class) -> Result<(), Stop>
+    ensures class { result ≡ check_class class }
+    ensures local { IfOk result (λ _. class ≡ LocallyCorrecting) }
+    ensures decided { IfErr result (λ why. IsTrue (is_decided why)) }
+{
+    match class {
+        Class::LocallyCorrecting => Ok(()),
+        Class::SelfStabilising => Err(Stop::ClassNotBuilt),
+        Class::GloballyCorrecting => Err(Stop::ClassNotBuilt),
+    }
+}
+
+fn run_job(command: RunCommand) -> Result<Job, Stop>
+    requires { CommandFits (Command.Run command) }
+    ensures job { result ≡ job_of (Command.Run command) }
+    ensures fits { IfOk result (λ job. JobFits job) }
+    ensures decided { IfErr result (λ why. IsTrue (is_decided why)) }
+{
+    let (program, class) = with_class(command.program)?;
+    check_class(class)?;
+    check_sources(&program, command.sources.as_slice())?;
+    Ok(Job::Run {
+        program,
+        sources: command.sources,
+        workers: command.workers,
+    })
+}
+
+fn solve_job(command: SolveCommand) -> Result<Job, Stop>
+    requires { CommandFits (Command.Solve command) }
+    ensures job { result ≡ job_of (Command.Solve command) }
+    ensures fits { IfOk result (λ job. JobFits job) }
+    ensures decided { IfErr result (λ why. IsTrue (is_decided why)) }
+{
+    let (program, _) = with_class(command.program)?;
+    check_sources(&program, command.sources.as_slice())?;
+    Ok(Job::Solve {
+        program,
+        sources: command.sources,
+        unweighted: command.unweighted,
+    })
+}
+
+fn classify_job(program: Result<Program, ProgramFault>) -> Result<Job, Stop>
+    requires { CommandFits (Command.Classify program) }
+    ensures job { result ≡ job_of (Command.Classify program) }
+    ensures fits { IfOk result (λ job. JobFits job) }
+    ensures decided { IfErr result (λ why. IsTrue (is_decided why)) }
+{
+    let (_, class) = with_class(program)?;
+    Ok(Job::Classify { class })
+}
+
+fn parts_job(command: PartsCommand) -> Result<Job, Stop>
+    requires { CommandFits (Command.Parts command) }
+    ensures job { result ≡ job_of (Command.Parts command) }
+    ensures fits { IfOk result (λ job. JobFits job) }
+    ensures decided { IfErr result (λ why. IsTrue (is_decided why)) }
+{
+    let (program, _) = with_class(command.program)?;
+    Ok(Job::Parts {
+        program,
+        workers: command.workers,
+        unweighted: command.unweighted,
+    })
+}
+
+/// What the command leaves to do, or why it stops before that: there is no command, its program is none or has no class,
+/// or its sources don't go with the program.
+#[tactic(auto, unfolding(crate::specs::Jobs::plan_of))]
+pub fn plan(command: Option<Command>) -> Result<Job, Stop>
+    requires { IfSome command (λ command. CommandFits command) }
+    ensures plan { result ≡ plan_of command }
+    ensures fits { IfOk result (λ job. JobFits job) }
+    ensures decided { IfErr result (λ why. IsTrue (is_decided why)) }
+{
+    match command {
+        None => Err(Stop::BadWords),
+        Some(Command::Run(command)) => run_job(command),
+        Some(Command::Solve(command)) => solve_job(command),
+        Some(Command::Classify(program)) => classify_job(program),
+        Some(Command::Parts(command)) => parts_job(command),
+    }
+}

@@ -1,0 +1,73 @@
+ghost use Rattle.std.specs.Prelude.{◌≡◌, ◌≤◌, ◌<◌, ◌^◌, ◌++◌, All, IfOk, OnOk, decimal, flat_map};
+ghost use Rattle.px_base.specs.Graphs.{RowsFit, read_count};
+ghost use Rattle.px_base.specs.Parts.{PartFits};
+ghost use Rattle.px_base.specs.Values.{IsValueList};
+ghost use Rattle.command_texts.specs.Texts.{line_of, parts_text};
+
+use partitioner::{cut, parts_and_routes};
+use px_base::{Items, Memory, Part, Read, ReadGraph, Value, write_number};
+use std::alloc::Global;
+
+/// How many reads the rows have.
+fn read_count(rows: &[Items<Read>]) -> u64
+    requires { read_count rows.now ≤ 2 ^ 25 }
+    ensures { result ≡ read_count rows.now }
+{
+    rows.iter().map(|row| row.as_slice().len() as u64).sum()
+}
+
+/// Appends the text, and then the number.
+fn write_labelled(out: &mut Vec<u8>, label: &[u8], number: u64) -> Result<(), Memory>
+    ensures { OnOk result (out.new.items ≡ out.old.items ++ (label.now ++ decimal number)) }
+{
+    out.extend_from_slice(label)?;
+    write_number(out, number)
+}
+
+/// Appends the line of a part.
+fn write_part(out: &mut Vec<u8>, part: &Part) -> Result<(), Memory>
+    requires fits { PartFits part.now }
+    requires reads { read_count part.now.rows ≤ 2 ^ 25 }
+    ensures { OnOk result (out.new.items ≡ out.old.items ++ line_of part.now) }
+{
+    write_labelled(out, b"worker ", u64::from(part.index))?;
+    write_labelled(out, b": masters ", u64::from(part.high - part.low))?;
+    write_labelled(out, b", mirrors ", part.mirrors.as_slice().len() as u64)?;
+    write_labelled(out, b", reads ", read_count(part.rows.as_slice()))?;
+    out.push(b'\n')?;
+    Ok(())
+}
+
+/// Appends the lines of all parts.
+fn write_parts(out: &mut Vec<u8>, parts: &[Part]) -> Result<(), Memory>
+    requires fit { All (λ part. PartFits part) parts.now }
+    requires reads { All (λ part. read_count part.rows ≤ 2 ^ 25) parts.now }
+    ensures { OnOk result (out.new.items ≡ out.old.items ++ flat_map line_of parts.now) }
+{
+    for part in parts {
+        write_part(out, part)?;
+    }
+    Ok(())
+}
+
+/// A line for each worker: how many masters, mirrors and reads its part of the graph has.
+#[tactic(auto, using(crate::proofs::PartLines::all_lines, crate::proofs::PartLines::few_reads))]
+pub fn parts_text(
+    alloc: Global,
+    graph: &ReadGraph,
+    starts: &[Value],
+    workers: u32,
+) -> Result<Vec<u8>, Memory>
+    requires rows { RowsFit graph.now.n graph.now.rows }
+    requires vertices { graph.now.n ≤ 2 ^ 22 }
+    requires reads { read_count graph.now.rows ≤ 2 ^ 25 }
+    requires starts { IsValueList graph.now.n starts.now }
+    requires workers { (1 ≤ workers) × (workers ≤ 64) }
+    ensures { IfOk result (λ text. text.items ≡ parts_text graph.now.rows workers) }
+{
+    let cuts = cut(alloc, graph.n, workers)?;
+    let (parts, _) = parts_and_routes(alloc, graph, starts, &cuts)?;
+    let mut text = Vec::new(alloc);
+    write_parts(&mut text, parts.as_slice())?;
+    Ok(text)
+}

@@ -1,0 +1,4 @@
+pub mod CommandFits
+pub mod CommandTable
+pub mod CommandWords
+pub mod Judging

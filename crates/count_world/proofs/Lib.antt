@@ -1,0 +1,4 @@
+pub mod Counted
+pub mod Foreign
+pub mod Masters
+pub mod Telling

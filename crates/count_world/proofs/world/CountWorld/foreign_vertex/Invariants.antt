@@ -1,0 +1,8 @@
+use Rattle.std.proofs.Common.{◌≡◌, ℕ, ◌<◌, true, get_or}
+use Rattle.px_base.specs.Worlds.{of_counts, takes_update}
+use Rattle.count_world.proofs.Foreign.{some_update}
+use Rattle.count_world.proofs.world.CountWorld.foreign_vertex.Given as goal
+
+-- each update so far is taken
+abbrev pub invariant-loop-update : goal.invariant-loop-update
+invariant-loop-update l = (k : ℕ) → k < l.update-index → takes_update (of_counts l.self) (get_or l.updates k some_update).vertex ≡ true

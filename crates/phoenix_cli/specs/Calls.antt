@@ -1,0 +1,69 @@
+-- What a call of the program comes to: why it stopped, if it did, and what it made of the source, the sink and the faults.
+use Rattle.std.specs.Prelude.{◌≡◌, ◌⊎◌, ℕ, Bool, ⊤, IsTrue, IsOk, IfSome, List, [], ◌∷◌, Option, Result, Ok, Err, MatchResult}
+use Rattle.std.specs.Io.KnownBytes.{Keeps, Appends, Consumes, IsAtEnd}
+use Rattle.px_base.specs.Values.{is_listed}
+use Rattle.edge_reader.specs.declared.fault.EdgeFault.TheVariants as fault
+use Rattle.edge_reader.specs.Readings.{HasNoFault}
+use Rattle.px_io.specs.Causes.{AppendsPrefix}
+use Rattle.command_ends.specs.declared.stop.Stop.{Stop}
+use Rattle.command_ends.specs.declared.stop.Stop.TheVariants as stop
+use Rattle.command_ends.specs.Stops.{stop_status}
+use Rattle.command_ends.specs.Lines.{stop_line, IsLineAdded}
+use Rattle.command_texts.specs.declared.job.Job.{Job}
+use Rattle.command_texts.specs.Jobs.{reads_source, reads_weights}
+use Rattle.command_texts.specs.Endings.{Ending, stopped, ending_of, IsEndingText}
+use Rattle.command_texts.specs.Solutions.{is_decided}
+
+-- a call that wrote its whole text, or stopped
+abbrev pub Outcome : Type 0
+Outcome = Result (Unit {0}) Stop
+
+-- the status of an outcome
+abbrev pub status_of : Outcome → ℕ
+status_of (Ok done) = 0
+status_of (Err why) = stop_status why
+
+-- the statuses that the program has
+abbrev pub is_status : ℕ → Bool
+is_status status = is_listed (0 ∷ 2 ∷ 3 ∷ 4 ∷ 5 ∷ 6 ∷ 7 ∷ 11 ∷ 12 ∷ []) status
+
+-- the ending has a text, and the sink grew by it, where it tells what was written
+pub record WritesText (ending : Ending) (old new : Option (List ℕ)) : Type 0 where
+  pub text : List ℕ
+  pub right : IsEndingText ending text
+  pub written : Appends old new text
+
+-- the ending has a text, and the sink grew by its first bytes, maybe none
+pub record WritesPrefix (ending : Ending) (old new : Option (List ℕ)) : Type 0 where
+  pub text : List ℕ
+  pub right : IsEndingText ending text
+  pub written : AppendsPrefix old new text
+
+-- The outcome is the ending's: a whole text where the ending has one, and a stop that the words and the input decide just
+-- where the ending is that stop. The others, for which source, sink or memory are the cause, may come in place of any.
+abbrev pub Ends : Ending → Outcome → Option (List ℕ) → Option (List ℕ) → Type 0
+Ends ending (Ok done) old new = WritesText ending old new
+Ends ending (Err stop.WriteFault) old new = WritesPrefix ending old new
+Ends ending (Err stop.Memory) old new = Keeps old new ⊎ WritesPrefix ending old new
+Ends ending (Err why) old new = (IsTrue (is_decided why) → ending ≡ stopped why) × Keeps old new
+
+-- What a call that follows the plan made of the bytes that were left in the source, and of the sink, by its outcome. Where
+-- the source tells its bytes, they are all that were left. Where it doesn't, there are some bytes of which all this
+-- holds, so what is written is the text on some input there too.
+pub record IsRunOf (plan : Result Job Stop) (outcome : Outcome) (left rest old new : Option (List ℕ)) : Type 0 where
+  pub bytes : List ℕ
+  pub told : IfSome left (λ all. all ≡ bytes)
+  pub ends : Ends (ending_of plan bytes) outcome old new
+  pub ended : IsOk outcome → IsTrue (reads_source plan) → IsAtEnd rest
+  -- what was taken of the bytes, and that a fault of the source was the first one
+  pub taken : List ℕ
+  pub lost : Consumes left rest taken
+  pub met : outcome ≡ Err (stop.Input fault.ReadFault) → HasNoFault (reads_weights plan) taken
+
+-- The status is that of an outcome of the plan, and where it stopped the line that says why was added to the faults: said
+-- are the bytes there, before and after, with the counts of faults and wants.
+pub record IsCallOf (plan : Result Job Stop) (status : ℕ) (left rest old new said_before said_now : Option (List ℕ)) (faults_before faults_now wants_before wants_now : ℕ) : Type 0 where
+  pub outcome : Outcome
+  pub status_is : status ≡ status_of outcome
+  pub run : IsRunOf plan outcome left rest old new
+  pub line : MatchResult outcome (λ done. ⊤) (λ why. IsLineAdded (stop_line why) said_before said_now faults_before faults_now wants_before wants_now)

@@ -1,0 +1,188 @@
+ghost use Rattle.std.specs.Prelude.{◌≡◌};
+
+use crate::known::Known;
+use crate::places::master_count;
+use crate::steps::copy_of;
+use px_base::{
+    Answer, CoreProgram, Items, Memory, Order, Part, Pos, StepFault, Update, Value, find_place,
+};
+use std::alloc::Global;
+use std::marker::Model;
+
+/// A world of values: a worker's part of the graph, how far it has come, and the core value of each of its masters and
+/// mirrors.
+#[derive(Drop)]
+pub struct ValueWorld {
+    alloc: Global,
+    part: Part,
+    core: CoreProgram,
+    chunks: u32,
+    epoch: u32,
+    round: u64,
+    known: Known,
+}
+
+impl Model for ValueWorld {
+    ghost use Rattle.px_base.specs.Worlds.{World as WorldData};
+
+    ghost Value = { WorldData };
+
+    ghost use Rattle.worker_world.specs.Views.{world_of, IsKept};
+
+    ghost view = { world_of };
+
+    ghost invariant = { IsKept };
+}
+
+impl ValueWorld {
+    ghost use Rattle.std.specs.Prelude.{◌≡◌, ◌≤◌, ◌^◌, ℕ, Some, None, Ok, OnErr, IfOk, IfErr, IfSome, IfNone, IsFalse};
+    ghost use Rattle.px_base.specs.Graphs.{HasWeights, read_count};
+    ghost use Rattle.px_base.specs.Parts.{PartFits};
+    ghost use Rattle.px_base.specs.Classes.{counts_reads};
+    ghost use Rattle.px_base.specs.Steps.{Refuses};
+    ghost use Rattle.px_base.specs.Worlds.{new_world, masters_of, epoch_of, takes_update, updates_in, CarriesValues, is_fresh, first_foreign, foreign};
+    ghost use Rattle.px_base.specs.WorldSteps.{world_step};
+    ghost use Rattle.worker_world.specs.Kept.{KeepsValues};
+
+    /// The new world of a part for a program: each master and each mirror has its start value where the program keeps what
+    /// a vertex had, and else core value 0. `chunks` is kept, and has no effect yet. Errors: want of memory.
+    pub fn new(
+        alloc: Global,
+        part: Part,
+        core: CoreProgram,
+        chunks: u32,
+    ) -> Result<ValueWorld, Memory>
+        requires fits { PartFits part }
+        requires weights { HasWeights part.rows }
+        requires reads { read_count part.rows ≤ 2 ^ 25 }
+        requires chunks { (1 ≤ chunks) × (chunks ≤ 64) }
+        requires fold { IsFalse (counts_reads core.program.fold) }
+        ensures { IfOk result (λ w. w ≡ new_world part core) }
+    {
+        let known = Known::new(alloc, &part, &core)?;
+        Ok(ValueWorld {
+            alloc,
+            part,
+            core,
+            chunks,
+            epoch: 0,
+            round: 0,
+            known,
+        })
+    }
+
+    /// The core values of the masters, by position from the part's first on.
+    pub fn masters(&self) -> &[Value]
+        ensures values { result.now ≡ masters_of self.now }
+        ensures kept { KeepsValues self.now }
+    {
+        &self.known.values[..master_count(&self.part)]
+    }
+
+    /// One step. A Step of the world's epoch or a later one puts its updates in place and renews all masters at once; a
+    /// Report of the world's epoch is answered by the values of all masters. Errors: the epoch doesn't go with the
+    /// world's, an update is of a vertex that is no mirror, want of memory. An error changes nothing.
+    pub fn step(&mut self, order: &Order) -> Result<Answer, StepFault>
+        requires values { CarriesValues (updates_in order.now) }
+        ensures ok { IfOk result (λ answer. world_step self.old order.now ≡ Ok (record { world = self.new; answer = answer })) }
+        ensures refused { IfErr result (λ fault. Refuses fault (world_step self.old order.now)) }
+        ensures kept { OnErr result (self.new ≡ self.old) }
+    {
+        match order {
+            Order::Report { epoch } => self.report(*epoch),
+            Order::Step {
+                epoch,
+                round,
+                updates,
+            } => self.advance(*epoch, *round, updates.as_slice()),
+        }
+    }
+
+    fn epoch(&self) -> u32
+        ensures { result ≡ epoch_of self.now }
+    {
+        self.epoch
+    }
+
+    fn report(&self, epoch: u32) -> Result<Answer, StepFault>
+        ensures ok { IfOk result (λ answer. world_step self.now (Order.Report epoch) ≡ Ok (record { world = self.now; answer = answer })) }
+        ensures refused { IfErr result (λ fault. Refuses fault (world_step self.now (Order.Report epoch))) }
+    {
+        if epoch != self.epoch {
+            return Err(StepFault::WrongEpoch {
+                had: self.epoch,
+                got: epoch,
+            });
+        }
+        let values = copy_of(self.alloc, self.masters())?;
+        Ok(Answer::Reported {
+            epoch,
+            values: Items::from_vec(values),
+        })
+    }
+
+    /// Whether the world takes an update of this vertex.
+    fn takes(&self, v: Pos) -> bool
+        ensures { result ≡ takes_update self.now v }
+    {
+        find_place(self.part.mirrors.as_slice(), v).is_some()
+    }
+
+    /// The first vertex of an update that isn't taken.
+    #[tactic(auto, using(count_world::proofs::Foreign::foreign_at, count_world::proofs::Foreign::none_foreign))]
+    fn foreign_vertex(&self, updates: &[Update]) -> Option<Pos>
+        ensures some { IfSome result (λ v. first_foreign (takes_update self.now) updates.now ≡ Some (foreign v)) }
+        ensures none { IfNone result (first_foreign (takes_update self.now) updates.now ≡ None) }
+    {
+        for update in updates {
+            if !self.takes(update.vertex) {
+                return Some(update.vertex);
+            }
+        }
+        None
+    }
+
+    /// A Step of any epoch.
+    #[tactic(auto, using(count_world::proofs::Foreign::step_refused, count_world::proofs::Foreign::step_taken))]
+    fn advance(&mut self, epoch: u32, round: u64, updates: &[Update]) -> Result<Answer, StepFault>
+        requires { CarriesValues updates.now }
+        ensures ok { IfOk result (λ answer. world_step self.old (Order.Step epoch round updates.now) ≡ Ok (record { world = self.new; answer = answer })) }
+        ensures refused { IfErr result (λ fault. Refuses fault (world_step self.old (Order.Step epoch round updates.now))) }
+        ensures kept { OnErr result (self.new ≡ self.old) }
+    {
+        let had = self.epoch();
+        if epoch < had {
+            return Err(StepFault::WrongEpoch { had, got: epoch });
+        }
+        if let Some(vertex) = self.foreign_vertex(updates) {
+            return Err(StepFault::Foreign { vertex });
+        }
+        match self.renew(epoch, round, updates) {
+            Ok(answer) => Ok(answer),
+            Err(Memory) => Err(StepFault::Memory),
+        }
+    }
+
+    /// A Step that isn't refused. The answer is made before anything changes, and nothing after that wants memory.
+    #[tactic(auto, using(count_world::proofs::Foreign::all_taken, crate::proofs::Placing::all_in_both))]
+    fn renew(&mut self, epoch: u32, round: u64, updates: &[Update]) -> Result<Answer, Memory>
+        requires epoch { epoch_of self.old ≤ epoch }
+        requires taken { first_foreign (takes_update self.old) updates.now ≡ None }
+        requires values { CarriesValues updates.now }
+        ensures ok { IfOk result (λ answer. world_step self.old (Order.Step epoch round updates.now) ≡ Ok (record { world = self.new; answer = answer })) }
+        ensures kept { OnErr result (self.new ≡ self.old) }
+    {
+        let fresh = self.epoch < epoch;
+        let changed = self.known.note(&self.part, &self.core, updates);
+        let announced = self.known.announced(self.alloc, &self.part, fresh)?;
+        self.known.commit();
+        self.epoch = epoch;
+        self.round = round;
+        Ok(Answer::Stepped {
+            epoch,
+            round,
+            changed,
+            updates: Items::from_vec(announced),
+        })
+    }
+}

@@ -1,5 +1,5 @@
--- How a command ends on an input, in the order in which faults are looked for: the words, the program, its class and the
--- number of sources (all these make its plan), then the input, then the sources.
+-- How a command ends on an input, in the order in which faults are looked for: the words, the program, its class and, where
+-- it is to be solved for, the number of sources (all these make its plan), then the input, then the sources.
 use Rattle.std.specs.Prelude.{◌≡◌, ℕ, List, Option, Some, None, Result, Ok, Err}
 use Rattle.px_base.specs.declared.program.Program.{Program}
 use Rattle.px_base.specs.declared.program.Class.{Class}

@@ -12,7 +12,7 @@ use command_ends::Stop;
 use command_words::{Command, PartsCommand, ProgramFault, RunCommand, SolveCommand};
 use px_base::{Class, Id, Items, Program, Start};
 
-/// What is left to do of a command whose program has a class, and has sources exactly where it needs some.
+/// What is left to do of a command whose program has a class. To solve, it has sources exactly where it needs some.
 #[derive(Debug, PartialEq, Eq, Drop)]
 pub enum Job {
     /// Solve by workers.

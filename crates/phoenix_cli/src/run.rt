@@ -30,9 +30,11 @@ fn follow<R: Threads + Sync, S: Source, K: Sink>(
     ensures read_fault { status_of result ≡ 6 → Rose (S.faults source.old) (S.faults source.new) }
     ensures write_fault { status_of result ≡ 7 → Rose (K.faults sink.old) (K.faults sink.new) }
     ensures no_fault { status_of result ≢ 6 → S.faults source.new ≡ S.faults source.old }
+    ensures no_write_fault { status_of result ≢ 7 → K.faults sink.new ≡ K.faults sink.old }
     ensures untouched { status_of result ≢ 0 → status_of result ≢ 7 → status_of result ≢ 11 → sink.new ≡ sink.old }
     ensures source_later { S.faults source.old ≤ S.faults source.new }
     ensures sink_later { K.faults sink.old ≤ K.faults sink.new }
+    ensures sink_wants_later { K.wants sink.old ≤ K.wants sink.new }
 {
     let job = match plan {
         Ok(job) => job,
@@ -65,9 +67,11 @@ fn perform<R: Threads + Sync, S: Source, K: Sink>(
     ensures read_fault { status_of result ≡ 6 → Rose (S.faults source.old) (S.faults source.new) }
     ensures write_fault { status_of result ≡ 7 → Rose (K.faults sink.old) (K.faults sink.new) }
     ensures no_fault { status_of result ≢ 6 → S.faults source.new ≡ S.faults source.old }
+    ensures no_write_fault { status_of result ≢ 7 → K.faults sink.new ≡ K.faults sink.old }
     ensures untouched { status_of result ≢ 0 → status_of result ≢ 7 → status_of result ≢ 11 → sink.new ≡ sink.old }
     ensures source_later { S.faults source.old ≤ S.faults source.new }
     ensures sink_later { K.faults sink.old ≤ K.faults sink.new }
+    ensures sink_wants_later { K.wants sink.old ≤ K.wants sink.new }
 {
     match read_command(alloc, words) {
         Ok(command) => follow(rt, alloc, plan(command), source, sink),
@@ -77,8 +81,8 @@ fn perform<R: Threads + Sync, S: Source, K: Sink>(
 
 /// Does what the words ask for. The source gives the edge list, and is read only where a command needs one; the sink gets
 /// the text of the command; where there is none, `faults` gets one line that says why. Answers the status to exit with: 0
-/// where the text is written whole; 2 for words that no command has, and for sources where the program starts from none or
-/// none where it needs some; 3 for a line outside the grammar; 4 for a program that is none, is refused, or can't be run
+/// where the text is written whole; 2 for words that no command has, and, for `run` and `solve`, for sources where the
+/// program starts from none or none where it needs some; 3 for a line outside the grammar; 4 for a program that is none, is refused, or can't be run
 /// yet; 5 where a limit is passed; 6 and 7 where the source or the sink failed; 11 where memory was wanting; 12 where no
 /// edge line has a source.
 pub fn phoenix<R: Threads + Sync, S: Source, K: Sink, F: Sink>(
@@ -105,15 +109,18 @@ pub fn phoenix<R: Threads + Sync, S: Source, K: Sink, F: Sink>(
     ensures untouched { result ≢ 0 → result ≢ 7 → result ≢ 11 → sink.new ≡ sink.old }
     ensures silent { result ≡ 0 → faults.new ≡ faults.old }
 
-    // 6 and 7: the source, which the plan reads, or the sink failed in this call. A source that failed is never asked
-    // again, and no count falls.
+    // 6 and 7: the source, which the plan reads, or the sink failed in this call. Where one of them failed no other status
+    // comes. No count falls.
     ensures reads { result ≡ 6 → reads_source (plan_of (command_of words.now)) ≡ true }
     ensures read_fault { result ≡ 6 → Rose (S.faults source.old) (S.faults source.new) }
     ensures no_fault { result ≢ 6 → S.faults source.new ≡ S.faults source.old }
     ensures write_fault { result ≡ 7 → Rose (K.faults sink.old) (K.faults sink.new) }
+    ensures no_write_fault { result ≢ 7 → K.faults sink.new ≡ K.faults sink.old }
     ensures source_later { S.faults source.old ≤ S.faults source.new }
     ensures sink_later { K.faults sink.old ≤ K.faults sink.new }
+    ensures sink_wants_later { K.wants sink.old ≤ K.wants sink.new }
     ensures faults_later { F.faults faults.old ≤ F.faults faults.new }
+    ensures faults_wants_later { F.wants faults.old ≤ F.wants faults.new }
 {
     match perform(rt, alloc, words, source, sink) {
         Ok(()) => 0,

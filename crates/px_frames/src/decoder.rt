@@ -5,8 +5,8 @@ ghost use Rattle.px_frames.specs.Decodings.{nothing_fed, fed_more, took_more, Sc
 ghost use Rattle.px_frames.specs.Feeds.{Takes, Refuses};
 
 use crate::front::{Front, read_front};
-use crate::shadow::Shadow;
 use px_base::{Frame, Memory};
+use shadow::Shadow;
 use std::alloc::{AllocError, Global};
 use std::collections::VecDeque;
 use std::marker::Model;

@@ -4,7 +4,6 @@
 mod decoder;
 mod front;
 mod laws;
-mod shadow;
 mod write;
 
 pub use decoder::{Decoder, FeedFault};

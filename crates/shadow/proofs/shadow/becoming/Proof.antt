@@ -19,9 +19,9 @@ use denote.Steps.{nothing, opens, closes}
 use denote.Triple.Walked.{Stays, walk_of, says, stay_ref, stay_dropped, Goes-ref, Goes-dropped, ends_at}
 use Rattle.std.proofs.raw_atomic.Walks.{proved}
 use Rattle.std.specs.contracts.snapshot.Snapshot.{the_row}
-use Rattle.px_frames.specs.contracts.shadow.becoming as f
-use Rattle.px_frames.proofs.shadow.becoming.Statement.{statement}
-use Rattle.px_frames.proofs.shadow.becoming.Code as code
+use Rattle.shadow.specs.contracts.shadow.becoming as f
+use Rattle.shadow.proofs.shadow.becoming.Statement.{statement}
+use Rattle.shadow.proofs.shadow.becoming.Code as code
 
 module _ (T B : RattleType) where
   abbrev Row : RattleType

@@ -1,3 +1,4 @@
+pub mod Flat
 pub mod Placing
 pub mod Stamping
 pub mod Taken

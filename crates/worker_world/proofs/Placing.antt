@@ -15,15 +15,16 @@ use Rattle.px_base.specs.Rules.{least, mex}
 use Rattle.px_base.specs.Parts.{PartFits, is_within, is_known}
 use Rattle.px_base.specs.Pulls.{known_value, master_pull}
 use Rattle.px_base.specs.Graphs.{row_at, read_count, HasWeights}
-use Rattle.px_base.specs.ValueSteps.{renewed_value}
+use Rattle.px_base.specs.ValueSteps.{newest_value, renewed_value, renewed_masters}
 use Rattle.px_base.specs.Worlds.{CarriesValues, ValueWorld, ValueWorldFits, new_value_world, new_world, of_values}
 use Rattle.worker_world.specs.Kept.{KeepsLimits}
 use Rattle.px_base.specs.declared.wire.Update.{Update}
 use Rattle.px_base.specs.Values.{IsValue, IsValueList}
 use Rattle.px_base.proofs.WorldsKeep.{updated_fit, new_world_fits}
 use Rattle.worker_world.specs.declared.places.PlacedRead.{PlacedRead}
-use Rattle.worker_world.specs.Placed.{master_count, place_in, placed_read, placed_row, placed_rows, placed_items, first_values, mirrors_after, IsUpdated}
+use Rattle.worker_world.specs.Placed.{master_count, place_in, placed_read, placed_row, placed_items, first_values, mirrors_after, masters_after}
 use Rattle.px_base.proofs.Listed.{rises_from_zero}
+use Rattle.px_base.proofs.Positions.{length_by_position}
 
 -- a part that fits has at most as many mirrors as there are vertices
 pub mirror_count : (part : Part) → PartFits part → length part.mirrors ≤ 2 ^ 22
@@ -93,24 +94,21 @@ places_within part row known = λ k d below. (let inside : k < length row = omeg
 
 -- ---- all rows
 
--- the master's row by place, and what it gathers
-pub row_by_place : (part : Part) (k : ℕ) (d : List PlacedRead) → k < length part.rows → get_or (placed_rows part) k d ≡ placed_row part (row_at part.rows k)
-row_by_place part k d inside = get_or-map (placed_row part) part.rows k [] d inside
-
-pub row_places_within : (part : Part) (k : ℕ) (d : List PlacedRead) → PartFits part → k < length (placed_rows part) → All (λ r. r.place < master_count part + length part.mirrors) (get_or (placed_rows part) k d)
-row_places_within part k d fits below =
-    let inside : k < length part.rows = omega (arith, below, length-map part.rows (placed_row part)) in
-    rw (row_by_place part k d inside) (places_within part (row_at part.rows k) (fits.sources k [] inside))
+pub row_places_within : (part : Part) (k : ℕ) (row : List PlacedRead) → PartFits part → k < length part.rows → row ≡ placed_row part (row_at part.rows k) →
+    All (λ r. r.place < master_count part + length part.mirrors) row
+row_places_within part k row fits inside is = rw is (places_within part (row_at part.rows k) (fits.sources k [] inside))
 
 -- a new value that is made by place
-pub renewed_by_place : (part : Part) (core : CoreProgram) (values : List ℕ) (k pulled : ℕ) (d : List PlacedRead) → PartFits part → k < length (placed_rows part) →
-    pulled ≡ core_gather core (slice_index part.starts k) (placed_items core values (get_or (placed_rows part) k d)) →
+pub renewed_by_place : (part : Part) (core : CoreProgram) (values : List ℕ) (k pulled : ℕ) → PartFits part → k < length part.rows →
+    pulled ≡ core_gather core (slice_index part.starts k) (placed_items core values (placed_row part (row_at part.rows k))) →
     renewed_value core (slice_index values k) pulled
     ≡ renewed_value core (slice_index (take (master_count part) values) k) (master_pull part core (take (master_count part) values) (drop (master_count part) values) k)
-renewed_by_place part core values k pulled d fits below is =
-    let inside : k < length part.rows = omega (arith, below, length-map part.rows (placed_row part)) in
+renewed_by_place part core values k pulled fits inside is =
     let first : k < master_count part = omega (arith, inside, fits.rows) in
-    rw (is, row_by_place part k d inside, gathered_is part core values (slice_index part.starts k) (row_at part.rows k), get_or-take (master_count part) values k 0 first) refl
+    rw (is, gathered_is part core values (slice_index part.starts k) (row_at part.rows k), get_or-take (master_count part) values k 0 first) refl
+
+pub placed_length : (part : Part) (row : List Read) → length (placed_row part row) ≡ length row
+placed_length part row = length-map row (placed_read part)
 
 -- ---- all values
 
@@ -120,23 +118,65 @@ take_first m first rest is = rw (← is) (take-append_seam first rest)
 pub drop_first : (m : ℕ) (first rest : List ℕ) → length first ≡ m → drop m (first ++ rest) ≡ rest
 drop_first m first rest is = rw (← is) (drop-append_seam first rest)
 
-pub updated_is : (part : Part) (updates : List Update) (before after : List ℕ) → length before ≡ master_count part + length part.mirrors → CarriesValues updates → All IsValue before →
-    after ≡ take (master_count part) before ++ mirrors_after part updates before → IsUpdated part updates before after
-updated_is part updates before after count carried known is =
-    let first : length (take (master_count part) before) ≡ master_count part = omega (arith, length-take (master_count part) before, count) in
+-- a list of the values of masters and mirrors, made of these two
+pub record HasHalves (part : Part) (first rest values : List ℕ) : Type 0 where
+  pub count : length values ≡ master_count part + length part.mirrors
+  pub masters : take (master_count part) values ≡ first
+  pub mirrors : drop (master_count part) values ≡ rest
+
+halves : (part : Part) (masters mirrors values : List ℕ) → length masters ≡ master_count part → length mirrors ≡ length part.mirrors → values ≡ masters ++ mirrors → HasHalves part masters mirrors values
+halves part masters mirrors values first rest is = rw is (record {
+  count = omega (arith, length-append masters mirrors);
+  masters = take_first (master_count part) masters mirrors first;
+  mirrors = drop_first (master_count part) masters mirrors first;
+})
+
+first_half : (part : Part) (values : List ℕ) → length values ≡ master_count part + length part.mirrors → length (take (master_count part) values) ≡ master_count part
+first_half part values count = omega (arith, length-take (master_count part) values)
+
+second_half : (part : Part) (values : List ℕ) → length values ≡ master_count part + length part.mirrors → length (drop (master_count part) values) ≡ length part.mirrors
+second_half part values count = omega (arith, length-drop (master_count part) values)
+
+-- after updates
+pub put_halves : (part : Part) (updates : List Update) (before after : List ℕ) → length before ≡ master_count part + length part.mirrors →
+    after ≡ take (master_count part) before ++ mirrors_after part updates before → HasHalves part (take (master_count part) before) (mirrors_after part updates before) after
+put_halves part updates before after count is =
+    halves part (take (master_count part) before) (mirrors_after part updates before) after (first_half part before count)
+    (length_by_position (length (drop (master_count part) before)) (λ k. newest_value updates (slice_index part.mirrors k) (slice_index (drop (master_count part) before) k)) ∙ second_half part before count)
+    is
+
+-- after a renewal
+pub renewed_halves : (part : Part) (core : CoreProgram) (masters mirrors before after : List ℕ) → PartFits part → length before ≡ master_count part + length part.mirrors →
+    after ≡ renewed_masters part core masters mirrors ++ drop (master_count part) before → HasHalves part (renewed_masters part core masters mirrors) (drop (master_count part) before) after
+renewed_halves part core masters mirrors before after fits count is =
+    halves part (renewed_masters part core masters mirrors) (drop (master_count part) before) after
+    (length_by_position (length part.rows) (λ k. renewed_value core (slice_index masters k) (master_pull part core masters mirrors k)) ∙ fits.rows)
+    (second_half part before count)
+    is
+
+-- after both
+pub noted_halves : (part : Part) (core : CoreProgram) (updates : List Update) (before after seen next new : List ℕ) → PartFits part → length before ≡ master_count part + length part.mirrors →
+    length next ≡ master_count part + length part.mirrors → after ≡ take (master_count part) before ++ mirrors_after part updates before → seen ≡ after →
+    new ≡ renewed_masters part core (take (master_count part) seen) (drop (master_count part) seen) ++ drop (master_count part) next →
+    HasHalves part (masters_after part core updates before) (drop (master_count part) next) new
+noted_halves part core updates before after seen next new fits count size put same renewed =
+    let old : HasHalves part (take (master_count part) before) (mirrors_after part updates before) after = put_halves part updates before after count put in
+    renewed_halves part core (take (master_count part) before) (mirrors_after part updates before) next new fits size (rw (same, old.masters, old.mirrors) at renewed)
+
+-- after updates were taken back
+pub taken_halves : (part : Part) (masters mirrors after : List ℕ) → length masters ≡ master_count part + length part.mirrors → length mirrors ≡ master_count part + length part.mirrors →
+    after ≡ take (master_count part) masters ++ drop (master_count part) mirrors → HasHalves part (take (master_count part) masters) (drop (master_count part) mirrors) after
+taken_halves part masters mirrors after first rest is = halves part (take (master_count part) masters) (drop (master_count part) mirrors) after (first_half part masters first) (second_half part mirrors rest) is
+
+pub updated_values : (part : Part) (updates : List Update) (before : List ℕ) → length before ≡ master_count part + length part.mirrors → CarriesValues updates → All IsValue before →
+    All IsValue (take (master_count part) before ++ mirrors_after part updates before)
+updated_values part updates before count carried known =
     let old : IsValueList (length part.mirrors) (drop (master_count part) before) = record {
       one_each = omega (arith, length-drop (master_count part) before, count);
       in_range = λ k d below. rw (get_or-drop (master_count part) before k d) (known (master_count part + k) d (omega (arith, below, length-drop (master_count part) before)));
     } in
     let new : IsValueList (length part.mirrors) (mirrors_after part updates before) = updated_fit part.mirrors updates (length part.mirrors) (drop (master_count part) before) carried old in
-    let masters : take (master_count part) after ≡ take (master_count part) before = rw is (take_first (master_count part) (take (master_count part) before) (mirrors_after part updates before) first) in
-    let mirrors : drop (master_count part) after ≡ mirrors_after part updates before = rw is (drop_first (master_count part) (take (master_count part) before) (mirrors_after part updates before) first) in
-    record {
-      count = rw is (omega (arith, length-append (take (master_count part) before) (mirrors_after part updates before), first, new.one_each));
-      masters = masters;
-      mirrors = mirrors;
-      values = rw is (All-append IsValue (take (master_count part) before) (mirrors_after part updates before) (All-take IsValue (master_count part) before known) new.in_range);
-    }
+    All-append IsValue (take (master_count part) before) (mirrors_after part updates before) (All-take IsValue (master_count part) before known) new.in_range
 
 pub all_in_both : (m : ℕ) (values : List ℕ) → All IsValue (take m values) → All IsValue (drop m values) → All IsValue values
 all_in_both m values first rest = subst (λ list. All IsValue list) (take-append-drop m values) (All-append IsValue (take m values) (drop m values) first rest)

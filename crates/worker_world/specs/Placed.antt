@@ -1,9 +1,9 @@
 -- The reads of a part by place, in one list of values: its masters stand first, in order, and then its mirrors.
-use Rattle.std.specs.Prelude.{◌≡◌, All, length, ℕ, ◌+◌, ◌-◌, List, map, slice_index, replicate, take, drop, if◌then◌else◌}
+use Rattle.std.specs.Prelude.{length, ℕ, ◌+◌, ◌-◌, List, map, slice_index, replicate, take, drop, if◌then◌else◌}
 use Rattle.px_base.specs.declared.graph.Part.{Part}
 use Rattle.px_base.specs.declared.graph.Read.{Read}
 use Rattle.px_base.specs.declared.program.CoreProgram.{CoreProgram}
-use Rattle.px_base.specs.Values.{IsValue, place_of}
+use Rattle.px_base.specs.Values.{place_of}
 use Rattle.px_base.specs.Classes.{keeps}
 use Rattle.px_base.specs.Core.{core_edge_value}
 use Rattle.px_base.specs.Parts.{is_within}
@@ -26,13 +26,13 @@ placed_read part read = record { place = place_in part read.source; weight = rea
 abbrev pub placed_row : Part → List Read → List PlacedRead
 placed_row part row = map (placed_read part) row
 
--- the rows of all masters
-abbrev pub placed_rows : Part → List (List PlacedRead)
-placed_rows part = map (placed_row part) part.rows
+-- what the values become on the reads of a row by this rule, where the list has the values of all masters and mirrors
+abbrev pub read_items : (ℕ → ℕ → ℕ) → List ℕ → List PlacedRead → List ℕ
+read_items rule values row = map (λ r. rule (slice_index values r.place) r.weight) row
 
--- the core edge values of a row, where the list has the values of all masters and mirrors
+-- the core edge values of a row
 abbrev pub placed_items : CoreProgram → List ℕ → List PlacedRead → List ℕ
-placed_items core values row = map (λ r. core_edge_value core (slice_index values r.place) r.weight) row
+placed_items core values row = read_items (core_edge_value core) values row
 
 -- what each master or mirror has in a new world that has these start values
 abbrev pub first_values : CoreProgram → List ℕ → List ℕ
@@ -44,10 +44,3 @@ mirrors_after part updates values = updated_mirrors part.mirrors updates (drop (
 
 abbrev pub masters_after : Part → CoreProgram → List Update → List ℕ → List ℕ
 masters_after part core updates values = renewed_masters part core (take (master_count part) values) (mirrors_after part updates values)
-
--- What the values after the updates are, made of those before: the masters' still stand first, and then come the mirrors'.
-pub record IsUpdated (part : Part) (updates : List Update) (before after : List ℕ) : Type 0 where
-  pub count : length after ≡ master_count part + length part.mirrors
-  pub masters : take (master_count part) after ≡ take (master_count part) before
-  pub mirrors : drop (master_count part) after ≡ mirrors_after part updates before
-  pub values : All IsValue after

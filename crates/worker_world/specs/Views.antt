@@ -1,5 +1,5 @@
 -- What the fields of a world mean.
-use Rattle.std.specs.Prelude.{◌≤◌, take, drop}
+use Rattle.std.specs.Prelude.{◌≡◌, ◌≤◌, take, drop}
 use Rattle.px_base.specs.Worlds.{World, of_values, ValueWorld}
 use Rattle.worker_world.specs.declared.value_world.ValueWorld.TheInside.{Inside}
 use Rattle.worker_world.specs.Kept.{KeepsLimits}
@@ -21,8 +21,9 @@ values_of w = record {
 abbrev pub world_of : Inside → World
 world_of w = of_values (values_of w)
 
--- what the fields keep
+-- What the fields keep. Between steps the mirrors have the same values in both lists.
 pub record IsKept (w : Inside) : Type 0 where
   pub world : KeepsLimits (values_of w)
   pub placed : IsByPlace w.part w.core w.known
+  pub level : drop (master_count w.part) w.known.next.items ≡ drop (master_count w.part) w.known.values.items
   pub chunks : (1 ≤ w.chunks) × (w.chunks ≤ 64)

@@ -2,9 +2,11 @@
 //! keep.
 #![tactic(auto)]
 
+mod flat_rows;
 mod known;
 mod places;
 mod pulls;
+mod read_rules;
 mod stamps;
 mod steps;
 mod value_world;

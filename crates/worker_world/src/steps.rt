@@ -1,12 +1,13 @@
 ghost use Rattle.std.specs.Prelude.{◌≡◌, ◌++◌, ◌≤◌, ◌+◌, ◌-◌, ◌||◌, All, IfOk, IsTrue, length, take, drop};
 ghost use Rattle.std.specs.List.Sorted.{IsStrictlyIncreasing};
-ghost use Rattle.px_base.specs.Values.{IsValue, is_listed};
+ghost use Rattle.px_base.specs.Values.{is_listed};
 ghost use Rattle.px_base.specs.Parts.{PartFits, is_within};
-ghost use Rattle.px_base.specs.Worlds.{CarriesValues};
 ghost use Rattle.px_base.specs.ValueSteps.{announcements, has_changed, some_changed, updated_mirrors};
-ghost use Rattle.worker_world.specs.Placed.{master_count, first_values, IsUpdated};
+ghost use Rattle.mirror_places.specs.Tables.{IsTableOf};
+ghost use Rattle.worker_world.specs.Placed.{master_count, first_values, mirrors_after};
 
 use crate::places::{master_count, place_of};
+use mirror_places::PlaceTable;
 use px_base::{CoreProgram, Memory, Own, Part, Pos, Update, Value};
 use std::alloc::Global;
 
@@ -40,65 +41,84 @@ pub fn first_values(alloc: Global, core: &CoreProgram, part: &Part) -> Result<Ve
 }
 
 /// Puts the updates in place, each at its mirror.
-fn apply_updates(mirrors: &[Pos], updates: &[Update], values: &mut [Value])
+fn apply_updates(mirrors: &[Pos], table: &PlaceTable, updates: &[Update], values: &mut [Value])
     requires rising { IsStrictlyIncreasing mirrors.now }
+    requires table { IsTableOf mirrors.now table.now }
     requires lengths { length values.old ≡ length mirrors.now }
     requires known { All (λ u. IsTrue (is_listed mirrors.now u.vertex)) updates.now }
     ensures { values.new ≡ updated_mirrors mirrors.now updates.now values.old }
 {
     for update in updates {
-        let at = place_of(mirrors, update.vertex);
+        let at = place_of(mirrors, table, update.vertex);
         values[at] = update.value;
     }
 }
 
-/// The same where the values of `count` masters stand before those of the mirrors.
-fn update_after(mirrors: &[Pos], updates: &[Update], count: usize, values: &mut Vec<Value>)
+/// Takes them back: each mirror that has one gets the value again that it has in `before`.
+fn take_back(
+    mirrors: &[Pos],
+    table: &PlaceTable,
+    updates: &[Update],
+    before: &[Value],
+    values: &mut [Value],
+)
     requires rising { IsStrictlyIncreasing mirrors.now }
-    requires lengths { length values.old.items ≡ count + length mirrors.now }
+    requires table { IsTableOf mirrors.now table.now }
+    requires lengths { length before.now ≡ length mirrors.now }
     requires known { All (λ u. IsTrue (is_listed mirrors.now u.vertex)) updates.now }
-    ensures { values.new.items ≡ take count values.old.items ++ updated_mirrors mirrors.now updates.now (drop count values.old.items) }
+    requires updated { values.old ≡ updated_mirrors mirrors.now updates.now before.now }
+    ensures { values.new ≡ before.now }
 {
-    let values = values.as_mut_slice();
-    apply_updates(mirrors, updates, &mut values[count..]);
+    for update in updates {
+        let at = place_of(mirrors, table, update.vertex);
+        values[at] = before[at];
+    }
 }
 
-/// Puts the updates in place among the values of all masters and mirrors.
-pub fn update_mirrors(part: &Part, updates: &[Update], values: &mut Vec<Value>)
+/// Puts the updates in place where the values of the masters stand before those of the mirrors.
+pub fn put_updates(part: &Part, table: &PlaceTable, updates: &[Update], values: &mut Vec<Value>)
     requires fits { PartFits part.now }
+    requires table { IsTableOf part.now.mirrors table.now }
     requires count { length values.old.items ≡ master_count part.now + length part.now.mirrors }
-    requires values { All IsValue values.old.items }
     requires known { All (λ u. IsTrue (is_listed part.now.mirrors u.vertex)) updates.now }
-    requires carried { CarriesValues updates.now }
-    ensures { IsUpdated part.now updates.now values.old.items values.new.items }
+    ensures { values.new.items ≡ take (master_count part.now) values.old.items ++ mirrors_after part.now updates.now values.old.items }
 {
-    update_after(part.mirrors.as_slice(), updates, master_count(part), values);
+    let count = master_count(part);
+    let values = values.as_mut_slice();
+    apply_updates(
+        part.mirrors.as_slice(),
+        table,
+        updates,
+        &mut values[count..],
+    );
 }
 
-/// Writes the values over a list of as many.
-pub fn put_copy(values: &[Value], list: &mut Vec<Value>)
-    requires { length list.old.items ≡ length values.now }
-    ensures { list.new.items ≡ values.now }
+/// Takes them back there.
+pub fn take_updates_back(
+    part: &Part,
+    table: &PlaceTable,
+    updates: &[Update],
+    before: &[Value],
+    values: &mut Vec<Value>,
+)
+    requires fits { PartFits part.now }
+    requires table { IsTableOf part.now.mirrors table.now }
+    requires before { length before.now ≡ master_count part.now + length part.now.mirrors }
+    requires count { length values.old.items ≡ master_count part.now + length part.now.mirrors }
+    requires known { All (λ u. IsTrue (is_listed part.now.mirrors u.vertex)) updates.now }
+    requires updated { drop (master_count part.now) values.old.items ≡ mirrors_after part.now updates.now before.now }
+    ensures { values.new.items ≡ take (master_count part.now) values.old.items ++ drop (master_count part.now) before.now }
 {
-    list.as_mut_slice().copy_from_slice(values);
-}
-
-fn put_first(values: &[Value], list: &mut [Value])
-    requires { length values.now ≤ length list.old }
-    ensures { list.new ≡ values.now ++ drop (length values.now) list.old }
-{
-    list[..values.len()].copy_from_slice(values);
-}
-
-/// Puts the new values of the masters in place of the old ones, which stand first.
-#[tactic(auto, using(crate::proofs::Placing::take_first, crate::proofs::Placing::drop_first))]
-pub fn put_masters(masters: &[Value], values: &mut Vec<Value>)
-    requires { length masters.now ≤ length values.old.items }
-    ensures first { take (length masters.now) values.new.items ≡ masters.now }
-    ensures rest { drop (length masters.now) values.new.items ≡ drop (length masters.now) values.old.items }
-    ensures count { length values.new.items ≡ length values.old.items }
-{
-    put_first(masters, values.as_mut_slice());
+    let count = master_count(part);
+    let mirrors = part.mirrors.as_slice();
+    let values = values.as_mut_slice();
+    take_back(
+        mirrors,
+        table,
+        updates,
+        &before[count..],
+        &mut values[count..],
+    );
 }
 
 /// Whether some master has another value than before.

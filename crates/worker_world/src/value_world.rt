@@ -3,9 +3,7 @@ ghost use Rattle.std.specs.Prelude.{◌≡◌};
 use crate::known::Known;
 use crate::places::master_count;
 use crate::steps::copy_of;
-use px_base::{
-    Answer, CoreProgram, Items, Memory, Order, Part, Pos, StepFault, Update, Value, find_place,
-};
+use px_base::{Answer, CoreProgram, Items, Memory, Order, Part, Pos, StepFault, Update, Value};
 use std::alloc::Global;
 use std::marker::Model;
 
@@ -125,7 +123,8 @@ impl ValueWorld {
     fn takes(&self, v: Pos) -> bool
         ensures { result ≡ takes_update self.now v }
     {
-        find_place(self.part.mirrors.as_slice(), v).is_some()
+        let mirrors = self.part.mirrors.as_slice();
+        self.known.table.find(mirrors, v).is_some()
     }
 
     /// The first vertex of an update that isn't taken.
@@ -163,7 +162,7 @@ impl ValueWorld {
         }
     }
 
-    /// A Step that isn't refused. The answer is made before anything changes, and nothing after that wants memory.
+    /// A Step that isn't refused. Nothing wants memory but the answer; where that is wanting, the updates are taken back.
     #[tactic(auto, using(count_world::proofs::Foreign::all_taken, crate::proofs::Placing::all_in_both))]
     fn renew(&mut self, epoch: u32, round: u64, updates: &[Update]) -> Result<Answer, Memory>
         requires epoch { epoch_of self.old ≤ epoch }
@@ -174,8 +173,11 @@ impl ValueWorld {
     {
         let fresh = self.epoch < epoch;
         let changed = self.known.note(&self.part, &self.core, updates);
-        let announced = self.known.announced(self.alloc, &self.part, fresh)?;
-        self.known.commit();
+        let Ok(announced) = self.known.announced(self.alloc, &self.part, fresh) else {
+            self.known.forget(&self.part, updates);
+            return Err(Memory);
+        };
+        self.known.commit(&self.part, updates);
         self.epoch = epoch;
         self.round = round;
         Ok(Answer::Stepped {

@@ -6,8 +6,8 @@ use Rattle.worker_world.proofs.known.Known.new.Goals as goal
 pub returns-clause-placed : goal.returns-clause-placed
 returns-clause-placed c = record {
   rows = search rules;
+  table = search rules;
   values = ap length c.in_ok-values.ensures ∙ first_count c.args.part.now c.args.core.now c.requires.fits;
-  seen = ap length c.in_ok-seen.ensures ∙ first_count c.args.part.now c.args.core.now c.requires.fits;
-  next = first_of (search rules, grind (arith, common_steps));
+  next = ap length c.in_ok-next.ensures ∙ first_count c.args.part.now c.args.core.now c.requires.fits;
   stamps = first_of (search rules, grind (arith, common_steps));
 }

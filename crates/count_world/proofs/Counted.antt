@@ -1,72 +1,103 @@
 -- What a Step of a world of counts comes to where it isn't refused.
-use Rattle.std.proofs.Common.{◌≡◌, ℕ, ◌-◌, ◌<◌, ◌≤◌, ◌∙◌, Bool, true, false, List, [], ◌∷◌, length, map, refl, sym, ap, arith, None}
-use Rattle.std.specs.Prelude.{◌==◌, ◌&&◌, ◌||◌, not, nat_lt, Ok, slice_index, sum_by, if◌then◌else◌}
+use Rattle.std.proofs.Common.{◌≡◌, ℕ, zero, suc, ◌+◌, ◌-◌, ◌<◌, ◌≤◌, ◌∙◌, Bool, true, false, List, [], ◌∷◌, length, map, refl, sym, ap, subst, arith, None}
+use Rattle.std.specs.Prelude.{◌==◌, ◌&&◌, ◌||◌, not, nat_lt, All, Ok, filter, slice_index, sum_by, if◌then◌else◌}
 use Rattle.std.specs.List.{list_any}
 use Rattle.std.proofs.lemmas.Bool.Decides.{nat_tests}
 use Rattle.std.proofs.lemmas.List.{length-map, get_or-map}
+use Rattle.std.proofs.lemmas.List.FromFn.{fill_by_all}
+use Rattle.px_base.specs.declared.graph.Part.{Part}
 use Rattle.px_base.specs.declared.wire.Update.{Update}
 use Rattle.px_base.specs.declared.wire.Order.TheVariants.{Step}
 use Rattle.px_base.specs.declared.wire.Answer.TheVariants.{Stepped}
-use Rattle.px_base.specs.Values.{positions_below, is_in, one_if}
+use Rattle.px_base.specs.Values.{by_position, positions_below, is_in, is_listed, one_if}
 use Rattle.px_base.specs.Graphs.{row_at, reads_passing}
 use Rattle.px_base.specs.Parts.{is_within}
 use Rattle.px_base.specs.Worlds.{CountWorld, first_foreign, is_fresh}
-use Rattle.px_base.specs.CountSteps.{is_master_passing, is_dead, dies, fresh_counts, counts_less, world_as_read, after_deaths, is_announced, death_announcements, times_read, count_step}
+use Rattle.px_base.specs.CountSteps.{is_master_passing, is_dead, dies, fresh_counts, delta_of, counts_less, world_as_read, after_deaths, is_announced, death_announcements, times_read, count_step}
 use Rattle.px_base.proofs.Positions.{length_by_position}
+use Rattle.count_world.specs.declared.readers.Readers.{Readers}
 use Rattle.count_world.specs.Kept.{KeepsCounts}
-use Rattle.count_world.specs.Sets.{counts_without, counts_read, dying_set, dead_set, announced_set, living_set}
-use Rattle.count_world.specs.Told.{times_told, times_so_far, told_updates}
-use Rattle.count_world.proofs.Masters.{AgreeBelow, by_position_same, in_set, lost_same, without_same, filter_same, any_same}
+use Rattle.count_world.specs.Readers.{AreReaders, times_linked, times_in_row}
+use Rattle.count_world.specs.Sets.{IsListOf, is_dying, is_told_again, counts_off, without}
+use Rattle.count_world.specs.Told.{times_of, told_updates}
+use Rattle.count_world.proofs.Masters.{by_position_same, in_set}
+use Rattle.count_world.proofs.Sums.{row_by_master, listed_is, joined, below_same, sum_none, some_listed}
 use Rattle.count_world.proofs.Telling.{told_is}
 
 not_earlier : (a b : ℕ) → b ≤ a → nat_lt a b ≡ false
 not_earlier a b h = grind (arith, nat_tests)
 
+-- ---- what counts lose
+
+-- each count less the reads in its row of masters that pass the test
+abbrev counts_without : Part → (ℕ → Bool) → List ℕ → List ℕ
+counts_without part test counts = by_position (length counts) (λ k. slice_index counts k - reads_passing (is_master_passing part test) (row_at part.rows k))
+
+-- what the members' chains take off a count is what its row reads of them
+pub lost_to : (part : Part) (readers : Readers) (test : ℕ → Bool) (members : List ℕ) (j : ℕ) → part.low ≤ part.high → AreReaders part readers → IsListOf (part.high - part.low) test members →
+    j < part.high - part.low → sum_by (λ k. times_linked readers k j) members ≡ reads_passing (is_master_passing part test) (row_at part.rows j)
+lost_to part readers test members j range are lists inside =
+    lists (λ k. times_linked readers k j)
+    ∙ below_same (part.high - part.low) (λ k. times_linked readers k j) (λ k. times_in_row part k j) test (λ k below. are.times k j below inside)
+    ∙ row_by_master test part.low (part.high - part.low) (row_at part.rows j)
+    ∙ (let whole : part.low + (part.high - part.low) ≡ part.high = omega arith in ap (λ high. reads_passing (λ u. is_within part.low high u && test (u - part.low)) (row_at part.rows j)) whole)
+
+pub off_is : (part : Part) (readers : Readers) (test : ℕ → Bool) (members counts : List ℕ) → part.low ≤ part.high → AreReaders part readers → IsListOf (part.high - part.low) test members →
+    length counts ≡ part.high - part.low → counts_off readers members counts ≡ counts_without part test counts
+off_is part readers test members counts range are lists size =
+    by_position_same (length counts) (length counts) (λ j. slice_index counts j - sum_by (λ k. times_linked readers k j) members) (λ k. slice_index counts k - reads_passing (is_master_passing part test) (row_at part.rows k)) 0 refl
+    (λ j below. ap (λ lost. slice_index counts j - lost) (lost_to part readers test members j range are lists (omega (arith, below, size))))
+
 -- ---- the counts that are read
 
-begun_anew : (w : CountWorld) → KeepsCounts w → counts_without w.part (is_in (dead_set w.alive)) (map length w.part.rows) ≡ fresh_counts w
+pub nothing_off : (readers : Readers) (n : ℕ) (members counts : List ℕ) → IsListOf n (λ k. false) members → counts_off readers members counts ≡ counts
+nothing_off readers n members counts lists =
+    sym (fill_by_all (λ j. slice_index counts j - sum_by (λ k. times_linked readers k j) members) counts (length counts) 0 refl (λ j below. omega (arith, sum_none (λ k. times_linked readers k j) n members lists)))
+
+begun_anew : (w : CountWorld) → KeepsCounts w → counts_without w.part (is_dead w) (map length w.part.rows) ≡ fresh_counts w
 begun_anew w keeps =
     let size : length (map length w.part.rows) ≡ length w.alive = length-map w.part.rows length ∙ keeps.fits.rows ∙ sym keeps.alive in
     by_position_same (length (map length w.part.rows)) (length w.alive)
-    (λ k. slice_index (map length w.part.rows) k - reads_passing (is_master_passing w.part (is_in (dead_set w.alive))) (row_at w.part.rows k))
+    (λ k. slice_index (map length w.part.rows) k - reads_passing (is_master_passing w.part (is_dead w)) (row_at w.part.rows k))
     (λ k. length (row_at w.part.rows k) - reads_passing (is_master_passing w.part (is_dead w)) (row_at w.part.rows k)) 0 size
     (λ k below.
     (let inside : k < length w.part.rows = omega (arith, below, keeps.alive, keeps.fits.rows) in
-    let agree : AgreeBelow (w.part.high - w.part.low) (is_in (dead_set w.alive)) (is_dead w) = λ j low. in_set (length w.alive) (is_dead w) j (omega (arith, low, keeps.alive)) in
-    ap (λ n. n - reads_passing (is_master_passing w.part (is_in (dead_set w.alive))) (row_at w.part.rows k)) (get_or-map length w.part.rows k [] 0 inside)
-    ∙ ap (λ lost. length (row_at w.part.rows k) - lost) (lost_same w.part (is_in (dead_set w.alive)) (is_dead w) (row_at w.part.rows k) agree)))
+    ap (λ n. n - reads_passing (is_master_passing w.part (is_dead w)) (row_at w.part.rows k)) (get_or-map length w.part.rows k [] 0 inside)))
 
-pub read_is : (w : CountWorld) (fresh : Bool) → KeepsCounts w → counts_read fresh w.part w.alive w.counts ≡ (if fresh then fresh_counts w else w.counts)
-read_is w true keeps = begun_anew w keeps
-read_is w false keeps = refl
+read_is : (w : CountWorld) (readers : Readers) (again : List ℕ) (fresh : Bool) → KeepsCounts w → AreReaders w.part readers → IsListOf (w.part.high - w.part.low) (is_told_again fresh w.alive) again →
+    counts_off readers again (if fresh then map length w.part.rows else w.counts) ≡ (if fresh then fresh_counts w else w.counts)
+read_is w readers again true keeps are lists =
+    off_is w.part readers (is_dead w) again (map length w.part.rows) keeps.fits.range are lists (length-map w.part.rows length ∙ keeps.fits.rows) ∙ begun_anew w keeps
+read_is w readers again false keeps are lists = nothing_off readers (w.part.high - w.part.low) again w.counts lists
 
 -- ---- the deaths
 
--- those marked are those that die
-pub marked_die : (read : CountWorld) → AgreeBelow (length read.alive) (is_in (dying_set read.alive read.counts read.needed)) (dies read)
-marked_die read k below = in_set (length read.alive) (dies read) k below
+living_is : (read : CountWorld) (dying : List ℕ) → All (λ flag. flag ≤ 1) read.alive → IsListOf (length read.alive) (dies read) dying → without dying read.alive ≡ (after_deaths read).alive
+living_is read dying flags lists =
+    by_position_same (length read.alive) (length read.alive) (λ k. if is_listed dying k then 0 else slice_index read.alive k) (λ k. one_if (is_in read.alive k && not (dies read k))) 0 refl
+    (λ k below. ap (λ b. if b then 0 else slice_index read.alive k) (listed_is (length read.alive) (dies read) dying k lists below) ∙ by_death (slice_index read.alive k) (dies read k) (flags k 0 below))
+  where
+    living : (flag : ℕ) → flag ≤ 1 → flag ≡ one_if ((flag == 1) && true)
+    living zero low = refl
+    living (suc zero) low = refl
+    living (suc (suc n)) low = absurd (omega arith)
 
-living_is : (read : CountWorld) → living_set read.alive (dying_set read.alive read.counts read.needed) ≡ (after_deaths read).alive
-living_is read =
-    let dying = dying_set read.alive read.counts read.needed in
-    by_position_same (length read.alive) (length read.alive) (λ k. one_if (is_in read.alive k && not (is_in dying k))) (λ k. one_if (is_in read.alive k && not (dies read k))) 0 refl
-    (λ k below. ap (λ b. one_if (is_in read.alive k && not b)) (marked_die read k below))
+    dead : (b : Bool) → one_if (b && false) ≡ 0
+    dead true = refl
+    dead false = refl
 
-counts_after : (read : CountWorld) → length read.alive ≡ read.part.high - read.part.low → counts_without read.part (is_in (dying_set read.alive read.counts read.needed)) read.counts ≡ (after_deaths read).counts
-counts_after read size = without_same read.part (is_in (dying_set read.alive read.counts read.needed)) (dies read) read.counts (λ k below. marked_die read k (omega (arith, below, size)))
+    by_death : (flag : ℕ) (b : Bool) → flag ≤ 1 → (if b then 0 else flag) ≡ one_if ((flag == 1) && not b)
+    by_death flag true low = sym (dead (flag == 1))
+    by_death flag false low = living flag low
 
 -- ---- what is announced
 
-told_of : (read : CountWorld) (fresh : Bool) → AgreeBelow (length read.alive) (is_in (announced_set fresh read.alive (dying_set read.alive read.counts read.needed))) (is_announced fresh read (after_deaths read))
-told_of read fresh k below =
-    let dying = dying_set read.alive read.counts read.needed in
-    let after = after_deaths read in
-    in_set (length read.alive) (λ j. is_in dying j || fresh && not (is_in read.alive j)) k below
-    ∙ ap (λ b. b || fresh && not (is_in read.alive k)) (marked_die read k below)
+announced_is : (read : CountWorld) (fresh : Bool) (k : ℕ) → k < length read.alive → is_announced fresh read (after_deaths read) k ≡ (is_told_again fresh read.alive k || dies read k)
+announced_is read fresh k below =
+    ap (λ b. if fresh then not b else dies read k) (in_set (length read.alive) (λ j. is_in read.alive j && not (dies read j)) k below)
     ∙ by_kind fresh (is_in read.alive k) (nat_lt (slice_index read.counts k) read.needed)
-    ∙ ap (λ b. if fresh then not b else dies read k) (sym (in_set (length read.alive) (λ j. is_in read.alive j && not (dies read j)) k below))
   where
-    by_kind : (fresh alive low : Bool) → ((alive && low) || fresh && not alive) ≡ (if fresh then not (alive && not (alive && low)) else alive && low)
+    by_kind : (fresh alive low : Bool) → (if fresh then not (alive && not (alive && low)) else alive && low) ≡ (fresh && not alive || (alive && low))
     by_kind true true true = refl
     by_kind true true false = refl
     by_kind true false true = refl
@@ -76,48 +107,67 @@ told_of read fresh k below =
     by_kind false false true = refl
     by_kind false false false = refl
 
-times_same : (w : CountWorld) (one other : ℕ → Bool) (m : ℕ) → length w.part.rows ≡ length w.alive → AgreeBelow (length w.alive) one other → times_told w.part one m ≡ times_read w other m
-times_same w one other m size agree =
-    ap (λ n. times_so_far w.part.rows one n m) size
-    ∙ ap (λ ks. sum_by (λ k. reads_passing (λ u. u == m) (row_at w.part.rows k)) ks) (filter_same one other (length w.alive) agree)
+never_both : (read : CountWorld) (fresh : Bool) (k : ℕ) → (is_told_again fresh read.alive k && dies read k) ≡ false
+never_both read fresh k = by_kind fresh (is_in read.alive k) (nat_lt (slice_index read.counts k) read.needed)
+  where
+    by_kind : (fresh alive low : Bool) → ((fresh && not alive) && (alive && low)) ≡ false
+    by_kind true true low = refl
+    by_kind true false low = refl
+    by_kind false alive low = refl
+
+times_same : (read : CountWorld) (fresh : Bool) (again dying : List ℕ) (m : ℕ) → IsListOf (length read.alive) (is_told_again fresh read.alive) again → IsListOf (length read.alive) (dies read) dying →
+    times_of read.part.rows again m + times_of read.part.rows dying m ≡ times_read (after_deaths read) (is_announced fresh read (after_deaths read)) m
+times_same read fresh again dying m first second =
+    let f : ℕ → ℕ = λ k. reads_passing (λ u. u == m) (row_at read.part.rows k) in
+    let kept : length (after_deaths read).alive ≡ length read.alive = length_by_position (length read.alive) (λ k. one_if (is_in read.alive k && not (dies read k))) in
+    ap (λ n. n + sum_by f dying) (first f)
+    ∙ ap (λ n. sum_by f (filter (is_told_again fresh read.alive) (positions_below (length read.alive))) + n) (second f)
+    ∙ joined f (is_told_again fresh read.alive) (dies read) (is_announced fresh read (after_deaths read)) (length read.alive) (announced_is read fresh) (λ k below. never_both read fresh k)
+    ∙ ap (λ n. sum_by f (filter (is_announced fresh read (after_deaths read)) (positions_below n))) (sym kept)
 
 map_same : (one other : ℕ → ℕ) → ((m : ℕ) → one m ≡ other m) → (ms : List ℕ) → map one ms ≡ map other ms
 map_same one other same [] = refl
 map_same one other same (m ∷ ms) = rw (same m, map_same one other same ms) refl
 
-told_after : (w : CountWorld) (one other : ℕ → Bool) → length w.part.rows ≡ length w.alive → AgreeBelow (length w.alive) one other →
-    told_updates w.part.mirrors (map (times_told w.part one) w.part.mirrors) ≡ death_announcements w other
-told_after w one other size agree =
-    ap (λ times. told_updates w.part.mirrors times) (map_same (times_told w.part one) (times_read w other) (λ m. times_same w one other m size agree) w.part.mirrors)
-    ∙ told_is w.part.mirrors (times_read w other)
+told_after : (read : CountWorld) (fresh : Bool) (again dying : List ℕ) → IsListOf (length read.alive) (is_told_again fresh read.alive) again → IsListOf (length read.alive) (dies read) dying →
+    told_updates read.part.mirrors (map (λ m. times_of read.part.rows again m + times_of read.part.rows dying m) read.part.mirrors) ≡ death_announcements (after_deaths read) (is_announced fresh read (after_deaths read))
+told_after read fresh again dying first second =
+    ap (λ times. told_updates read.part.mirrors times)
+    (map_same (λ m. times_of read.part.rows again m + times_of read.part.rows dying m) (times_read (after_deaths read) (is_announced fresh read (after_deaths read))) (λ m. times_same read fresh again dying m first second) read.part.mirrors)
+    ∙ told_is read.part.mirrors (times_read (after_deaths read) (is_announced fresh read (after_deaths read)))
 
 -- ---- the step
 
-pub step_made : (w : CountWorld) (epoch round : ℕ) (updates : List Update) (next dying alive counts : List ℕ) (changed : Bool) (announced : List Update) → KeepsCounts w →
-    w.epoch ≤ epoch → first_foreign (is_within w.part.low w.part.high) updates ≡ None →
-    next ≡ counts_less w.part.low updates (counts_read (is_fresh w.epoch epoch) w.part w.alive w.counts) →
-    dying ≡ dying_set w.alive next w.needed →
-    alive ≡ living_set w.alive dying →
-    counts ≡ counts_without w.part (is_in dying) next →
-    changed ≡ list_any (is_in dying) (positions_below (length dying)) →
-    announced ≡ told_updates w.part.mirrors (map (times_told w.part (is_in (announced_set (is_fresh w.epoch epoch) w.alive dying))) w.part.mirrors) →
+read_size : (w : CountWorld) (updates : List Update) (fresh : Bool) → KeepsCounts w → length (counts_less w.part.low updates (if fresh then fresh_counts w else w.counts)) ≡ w.part.high - w.part.low
+read_size w updates true keeps =
+    length_by_position (length (fresh_counts w)) (λ k. slice_index (fresh_counts w) k - delta_of updates (w.part.low + k))
+    ∙ length_by_position (length w.alive) (λ k. length (row_at w.part.rows k) - reads_passing (is_master_passing w.part (is_dead w)) (row_at w.part.rows k))
+    ∙ keeps.alive
+read_size w updates false keeps = length_by_position (length w.counts) (λ k. slice_index w.counts k - delta_of updates (w.part.low + k)) ∙ keeps.counts
+
+pub step_made : (w : CountWorld) (readers : Readers) (epoch round : ℕ) (updates : List Update) (again dying next alive counts : List ℕ) (changed : Bool) (announced : List Update) →
+    KeepsCounts w → AreReaders w.part readers → All (λ flag. flag ≤ 1) w.alive → w.epoch ≤ epoch → first_foreign (is_within w.part.low w.part.high) updates ≡ None →
+    IsListOf (w.part.high - w.part.low) (is_told_again (is_fresh w.epoch epoch) w.alive) again →
+    next ≡ counts_less w.part.low updates (counts_off readers again (if is_fresh w.epoch epoch then map length w.part.rows else w.counts)) →
+    IsListOf (w.part.high - w.part.low) (is_dying w.alive next w.needed) dying →
+    alive ≡ without dying w.alive →
+    counts ≡ counts_off readers dying next →
+    changed ≡ not (length dying == 0) →
+    announced ≡ told_updates w.part.mirrors (map (λ m. times_of w.part.rows again m + times_of w.part.rows dying m) w.part.mirrors) →
     count_step w (Step epoch round updates)
     ≡ Ok (record { world = record { part = w.part; needed = w.needed; epoch = epoch; round = round; alive = alive; counts = counts }; answer = Stepped epoch round changed announced })
-step_made w epoch round updates next dying alive counts changed announced keeps later taken is_next is_dying is_alive is_counts is_changed tells =
+step_made w readers epoch round updates again dying next alive counts changed announced keeps are flags later taken first is_next second is_alive is_counts is_changed tells =
     let late : nat_lt epoch w.epoch ≡ false = not_earlier epoch w.epoch later in
     let fresh : Bool = is_fresh w.epoch epoch in
     let read : CountWorld = world_as_read epoch round updates w in
     let after : CountWorld = after_deaths read in
-    let n : next ≡ read.counts = is_next ∙ ap (λ cs. counts_less w.part.low updates cs) (read_is w fresh keeps) in
-    let d : dying ≡ dying_set read.alive read.counts read.needed = is_dying ∙ ap (λ cs. dying_set w.alive cs w.needed) n in
-    let a : alive ≡ after.alive = is_alive ∙ ap (λ s. living_set w.alive s) d ∙ living_is read in
-    let c : counts ≡ after.counts = is_counts ∙ ap (λ s. counts_without w.part (is_in s) next) d ∙ ap (λ cs. counts_without w.part (is_in (dying_set read.alive read.counts read.needed)) cs) n ∙ counts_after read keeps.alive in
-    let size : length (dying_set read.alive read.counts read.needed) ≡ length w.alive = length_by_position (length read.alive) (λ k. one_if (dies read k)) in
-    let ch : changed ≡ list_any (dies read) (positions_below (length w.alive)) =
-    is_changed ∙ ap (λ s. list_any (is_in s) (positions_below (length s))) d ∙ ap (λ k. list_any (is_in (dying_set read.alive read.counts read.needed)) (positions_below k)) size
-    ∙ any_same (is_in (dying_set read.alive read.counts read.needed)) (dies read) (length w.alive) (marked_die read) in
-    let kept : length after.alive ≡ length w.alive = length_by_position (length read.alive) (λ k. one_if (is_in read.alive k && not (dies read k))) in
-    let an : announced ≡ death_announcements after (is_announced fresh read after) =
-    tells ∙ ap (λ s. told_updates w.part.mirrors (map (times_told w.part (is_in (announced_set fresh w.alive s))) w.part.mirrors)) d
-    ∙ told_after after (is_in (announced_set fresh read.alive (dying_set read.alive read.counts read.needed))) (is_announced fresh read after) (keeps.fits.rows ∙ sym keeps.alive ∙ sym kept) (λ k below. told_of read fresh k (omega (arith, below, kept))) in
+    let n : next ≡ read.counts = is_next ∙ ap (λ cs. counts_less w.part.low updates cs) (read_is w readers again fresh keeps are first) in
+    let size : length read.counts ≡ w.part.high - w.part.low = read_size w updates fresh keeps in
+    let dying_lists : IsListOf (w.part.high - w.part.low) (dies read) dying = subst (λ cs. IsListOf (w.part.high - w.part.low) (is_dying w.alive cs w.needed) dying) n second in
+    let here : IsListOf (length w.alive) (dies read) dying = subst (λ m. IsListOf m (dies read) dying) (sym keeps.alive) dying_lists in
+    let there : IsListOf (length w.alive) (is_told_again fresh w.alive) again = subst (λ m. IsListOf m (is_told_again fresh w.alive) again) (sym keeps.alive) first in
+    let a : alive ≡ after.alive = is_alive ∙ living_is read dying flags here in
+    let c : counts ≡ after.counts = is_counts ∙ ap (λ cs. counts_off readers dying cs) n ∙ off_is w.part readers (dies read) dying read.counts keeps.fits.range are dying_lists size in
+    let ch : changed ≡ list_any (dies read) (positions_below (length w.alive)) = is_changed ∙ some_listed (length w.alive) (dies read) dying here in
+    let an : announced ≡ death_announcements after (is_announced fresh read after) = tells ∙ told_after read fresh again dying there here in
     rw (count_step, late, taken, an, ch, c, a) refl

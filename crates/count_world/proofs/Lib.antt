@@ -1,4 +1,9 @@
 pub mod Counted
 pub mod Foreign
+pub mod Linked
+pub mod Lowered
 pub mod Masters
+pub mod Stepped
+pub mod Sums
+pub mod Tallied
 pub mod Telling

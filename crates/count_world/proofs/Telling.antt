@@ -1,14 +1,12 @@
 -- How often mirrors are told of.
-use Rattle.std.proofs.Common.{◌≡◌, ℕ, zero, suc, ◌+◌, ◌<◌, ◌≤◌, ◌≢◌, ◌∙◌, Bool, true, false, cond, List, [], ◌∷◌, ◌++◌, length, get_or, take, map, refl, sym, ap, arith, inl, inr, eqb-true, eq-eqb, Option, Some, None, add-zero, subst, ◌^◌}
+use Rattle.std.proofs.Common.{◌≡◌, ℕ, zero, suc, ◌+◌, ◌<◌, ◌≤◌, ◌≢◌, ◌∙◌, Bool, true, false, cond, List, [], ◌∷◌, ◌++◌, length, get_or, take, map, refl, sym, ap, arith, inl, inr, eqb-true, eq-eqb, Option, Some, None, subst}
 use Rattle.std.specs.Prelude.{◌==◌, nat_lt, IfSome, IfNone, filter, sum_by, if◌then◌else◌}
-use Rattle.std.specs.List.{range_with_len}
 use Rattle.std.specs.List.Sorted.{IsStrictlyIncreasing}
 use Rattle.std.proofs.lemmas.List.{append-nil}
 use Rattle.std.proofs.lemmas.Bool.Decides.{eqb_tells, nat_tests}
 use Rattle.std.proofs.lemmas.Bool.{cases_lt}
-use Rattle.std.proofs.lemmas.List.Elements.{filter-append}
 use Rattle.std.proofs.lemmas.List.Folds.{list_any_at}
-use Rattle.std.proofs.lemmas.List.Sums.{passes_at_first, count_by-le-length, sum_by-append, sum_by_more, sum_by_more_le}
+use Rattle.std.proofs.lemmas.List.Sums.{passes_at_first, count_by-le-length, sum_by_more, sum_by_more_le, sum_by-le-sum_by, sum_by-take-le}
 use Rattle.px_base.proofs.Listed.{not_equal, rising_apart}
 use Rattle.px_base.specs.declared.graph.Part.{Part}
 use Rattle.px_base.specs.declared.graph.Read.{Read}
@@ -16,7 +14,9 @@ use Rattle.px_base.specs.declared.wire.Update.{Update}
 use Rattle.px_base.specs.Values.{positions_below, is_listed, place_of, one_if}
 use Rattle.px_base.specs.Graphs.{row_at, reads_passing, read_count}
 use Rattle.px_base.specs.Parts.{PartFits, is_within}
-use Rattle.count_world.specs.Told.{added, is_place, times_so_far, told_updates}
+use Rattle.count_world.specs.Told.{is_place, times_of, reads_of, told_updates}
+use Rattle.count_world.specs.Sets.{IsListOf}
+use Rattle.count_world.proofs.Sums.{sum_suc}
 
 -- ---- where a read's source stands among the mirrors
 
@@ -60,43 +60,32 @@ passing_more test row i d below = sum_by_more (λ r. cond (test r.source) 1 0) r
 pub passing_within : (test : ℕ → Bool) (row : List Read) → reads_passing test row ≤ length row
 passing_within test row = count_by-le-length (λ r. test r.source) row
 
--- ---- one row more
+-- ---- rows of members
 
-range_suc : (a n : ℕ) → range_with_len a (suc n) ≡ range_with_len a n ++ (a + n) ∷ []
-range_suc a zero = rw add-zero refl
-range_suc a (suc n) = let last : a + 1 + n ≡ a + suc n = omega arith in ap (λ rest. a ∷ rest) (range_suc (a + 1) n ∙ ap (λ j. range_with_len (a + 1) n ++ j ∷ []) last)
+pub told_within : (rows : List (List Read)) (members : List ℕ) (m : ℕ) → times_of rows members m ≤ reads_of rows members
+told_within rows members m = sum_by-le-sum_by (λ k. reads_passing (λ u. u == m) (row_at rows k)) (λ k. length (row_at rows k)) members (λ k. passing_within (λ u. u == m) (row_at rows k))
 
-told_last : (b : Bool) (f : ℕ → ℕ) (k : ℕ) → sum_by f (if b then k ∷ [] else []) ≡ (if b then f k else 0)
-told_last true f k = omega arith
-told_last false f k = refl
+-- there is room for what a row adds
+pub room_for_row : (rows : List (List Read)) (members : List ℕ) (i : ℕ) → i < length members → reads_of rows (take i members) + length (row_at rows (get_or members i 0)) ≤ reads_of rows members
+room_for_row rows members i inside = sum_by_more_le (λ k. length (row_at rows k)) members i 0 inside
 
-told_suc : (rows : List (List Read)) (test : ℕ → Bool) (k m : ℕ) → times_so_far rows test (suc k) m ≡ times_so_far rows test k m + added (test k) (row_at rows k) m
-told_suc rows test k m =
-    let f : ℕ → ℕ = λ j. reads_passing (λ u. u == m) (row_at rows j) in
-    let last : 0 + k ≡ k = omega arith in
-    ap (λ ks. sum_by f (filter test ks)) (range_suc 0 k ∙ ap (λ j. range_with_len 0 k ++ j ∷ []) last)
-    ∙ ap (λ ks. sum_by f ks) (filter-append test (positions_below k) (k ∷ []))
-    ∙ sum_by-append f (filter test (positions_below k)) (filter test (k ∷ []))
-    ∙ ap (λ n. sum_by f (filter test (positions_below k)) + n) (told_last (test k) f k)
-
-pub told_more : (rows : List (List Read)) (test : ℕ → Bool) (k m : ℕ) → times_so_far rows test (k + 1) m ≡ times_so_far rows test k m + added (test k) (row_at rows k) m
-told_more rows test k m = let next : suc k ≡ k + 1 = omega arith in subst (λ n. times_so_far rows test n m ≡ times_so_far rows test k m + added (test k) (row_at rows k) m) next (told_suc rows test k m)
-
-added_within : (b : Bool) (row : List Read) (m : ℕ) → added b row m ≤ length row
-added_within true row m = passing_within (λ u. u == m) row
-added_within false row m = omega arith
-
-pub told_within : (rows : List (List Read)) (test : ℕ → Bool) (k m : ℕ) → k ≤ length rows → times_so_far rows test k m ≤ sum_by (λ row. length row) (take k rows)
-told_within rows test zero m inside = omega arith
-told_within rows test (suc k) m inside =
+lengths_within : (rows : List (List Read)) (test : ℕ → Bool) (k : ℕ) → k ≤ length rows → reads_of rows (filter test (positions_below k)) ≤ sum_by (λ row. length row) (take k rows)
+lengths_within rows test zero inside = omega arith
+lengths_within rows test (suc k) inside =
     let next : k + 1 ≡ suc k = omega arith in
     let all : sum_by (λ row. length row) (take (suc k) rows) ≡ sum_by (λ row. length row) (take k rows) + length (row_at rows k) =
     subst (λ n. sum_by (λ row. length row) (take n rows) ≡ sum_by (λ row. length row) (take k rows) + length (row_at rows k)) next (sum_by_more (λ row. length row) rows k [] (omega arith)) in
-    omega (arith, told_suc rows test k m, all, added_within (test k) (row_at rows k) m, told_within rows test k m (omega arith))
+    omega (arith, sum_suc (λ j. length (row_at rows j)) test k, all, at_most (test k) (length (row_at rows k)), lengths_within rows test k (omega arith))
+  where
+    at_most : (b : Bool) (n : ℕ) → (if b then n else 0) ≤ n
+    at_most true n = omega arith
+    at_most false n = omega arith
 
--- there is room for what a row adds
-pub room_for_row : (rows : List (List Read)) (test : ℕ → Bool) (k m : ℕ) → k < length rows → read_count rows ≤ 2 ^ 25 → times_so_far rows test k m + length (row_at rows k) ≤ 2 ^ 63
-room_for_row rows test k m inside few = omega (arith, told_within rows test k m (omega arith), sum_by_more_le (λ row. length row) rows k [] inside, few)
+-- the rows of some masters have no more reads than all rows
+pub few_reads : (rows : List (List Read)) (n most : ℕ) (test : ℕ → Bool) (members : List ℕ) → IsListOf n test members → length rows ≡ n → read_count rows ≤ most → reads_of rows members ≤ most
+few_reads rows n most test members lists size few =
+    let same : reads_of rows members ≡ reads_of rows (filter test (positions_below n)) = lists (λ k. length (row_at rows k)) in
+    omega (arith, same, lengths_within rows test n (omega (arith, size)), sum_by-take-le (λ row. length row) rows n, few)
 
 -- ---- what is told
 

@@ -1,31 +1,40 @@
--- Sets of masters as lists of 1 and 0, and what counts lose to them. Masters are named by k, their place in the part.
-use Rattle.std.specs.Prelude.{ℕ, ◌-◌, Bool, not, ◌&&◌, ◌||◌, nat_lt, List, length, map, slice_index, if◌then◌else◌}
-use Rattle.px_base.specs.declared.graph.Part.{Part}
-use Rattle.px_base.specs.Values.{by_position, is_in, one_if}
-use Rattle.px_base.specs.Graphs.{row_at, reads_passing}
-use Rattle.px_base.specs.CountSteps.{is_master_passing}
+-- Lists of masters, and what counts lose to them. Masters are named by k and j, their place in the part.
+use Rattle.std.specs.Prelude.{◌≡◌, ℕ, ◌+◌, ◌-◌, Bool, true, not, ◌&&◌, ◌||◌, ◌==◌, ◌<◌, nat_lt, List, length, filter, sum_by, slice_index, if◌then◌else◌}
+use Rattle.std.specs.List.{list_any}
+use Rattle.px_base.specs.declared.wire.Update.{Update}
+use Rattle.px_base.specs.Values.{by_position, positions_below, is_in, is_listed}
+use Rattle.count_world.specs.declared.readers.Readers.{Readers}
+use Rattle.count_world.specs.Readers.{times_linked}
 
--- each count less the reads in its row of masters that pass the test
-abbrev pub counts_without : Part → (ℕ → Bool) → List ℕ → List ℕ
-counts_without part test counts = by_position (length counts) (λ k. slice_index counts k - reads_passing (is_master_passing part test) (row_at part.rows k))
+-- The list has those of the first n that pass the test, each once, in some order: whatever is summed up over it is what is
+-- summed up over them.
+abbrev pub IsListOf : ℕ → (ℕ → Bool) → List ℕ → Type 0
+IsListOf n test members = (f : ℕ → ℕ) → sum_by f members ≡ sum_by f (filter test (positions_below n))
 
--- those that are alive and have a count below the number needed
-abbrev pub dying_set : List ℕ → List ℕ → ℕ → List ℕ
-dying_set alive counts needed = by_position (length alive) (λ k. one_if (is_in alive k && nat_lt (slice_index counts k) needed))
+-- alive, with a count below the number needed
+abbrev pub is_dying : List ℕ → List ℕ → ℕ → ℕ → Bool
+is_dying alive counts needed k = is_in alive k && nat_lt (slice_index counts k) needed
 
--- those that aren't alive
-abbrev pub dead_set : List ℕ → List ℕ
-dead_set alive = by_position (length alive) (λ k. one_if (not (is_in alive k)))
+-- alive, with a count that falls below the number needed
+abbrev pub falls : ℕ → ℕ → ℕ → ℕ → Bool
+falls flag before after needed = (flag == 1) && (not (nat_lt before needed) && nat_lt after needed)
 
--- those that die, and with them, where all are asked for, those that are dead already
-abbrev pub announced_set : Bool → List ℕ → List ℕ → List ℕ
-announced_set all alive dying = by_position (length alive) (λ k. one_if (is_in dying k || all && not (is_in alive k)))
+-- dead already, where a Step is fresh
+abbrev pub is_told_again : Bool → List ℕ → ℕ → Bool
+is_told_again fresh alive k = fresh && not (is_in alive k)
 
--- those that are alive and don't die
-abbrev pub living_set : List ℕ → List ℕ → List ℕ
-living_set alive dying = by_position (length alive) (λ k. one_if (is_in alive k && not (is_in dying k)))
+-- each count less what its master reads of the members, by their chains
+abbrev pub counts_off : Readers → List ℕ → List ℕ → List ℕ
+counts_off readers members counts = by_position (length counts) (λ j. slice_index counts j - sum_by (λ k. times_linked readers k j) members)
 
--- The counts that a Step reads, before its updates are taken off. Where it is fresh, they begin anew: each is the length
--- of the row, less the reads in it of dead masters.
-abbrev pub counts_read : Bool → Part → List ℕ → List ℕ → List ℕ
-counts_read fresh part alive counts = if fresh then counts_without part (is_in (dead_set alive)) (map length part.rows) else counts
+-- the list with 0 at the members
+abbrev pub without : List ℕ → List ℕ → List ℕ
+without members items = by_position (length items) (λ k. if is_listed members k then 0 else slice_index items k)
+
+-- some update is of master j
+abbrev pub is_updated : ℕ → List Update → ℕ → Bool
+is_updated low updates j = list_any (λ u. u.vertex == low + j) updates
+
+-- The counts that a Step may change are saved.
+abbrev pub AreSaved : Bool → ℕ → List Update → List ℕ → List ℕ → Type 0
+AreSaved fresh low updates counts saved = (j : ℕ) → j < length counts → (fresh || is_updated low updates j) ≡ true → slice_index saved j ≡ slice_index counts j

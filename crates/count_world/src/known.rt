@@ -1,131 +1,155 @@
-ghost use Rattle.std.specs.Prelude.{◌≡◌, ◌-◌, ◌≤◌, ◌^◌, All, IfOk, IsTrue, if◌then◌else◌, length, map, replicate};
-ghost use Rattle.std.specs.List.{list_any};
-ghost use Rattle.px_base.specs.Values.{is_in, positions_below};
+ghost use Rattle.std.specs.Prelude.{◌≡◌, ◌-◌, ◌<◌, ◌≤◌, ◌^◌, ◌||◌, ℕ, All, IfOk, IsTrue, OnErr, if◌then◌else◌, length, map, replicate, slice_index};
+ghost use Rattle.std.specs.Vec.{vec_capacity};
+ghost use Rattle.px_base.specs.declared.graph.Part.{Part as PartData};
 ghost use Rattle.px_base.specs.Graphs.{read_count};
 ghost use Rattle.px_base.specs.Parts.{PartFits, is_within};
-ghost use Rattle.px_base.specs.CountSteps.{counts_less};
-ghost use Rattle.count_world.specs.Kept.{HasRoom};
-ghost use Rattle.count_world.specs.Sets.{counts_without, counts_read, dying_set, dead_set, announced_set, living_set};
-ghost use Rattle.count_world.specs.Told.{times_told};
+ghost use Rattle.count_world.specs.Census.{IsCensus};
+ghost use Rattle.count_world.specs.Kept.{HasTables, IsReady};
+ghost use Rattle.count_world.specs.Noted.{IsNoted, IsStepped};
+ghost use Rattle.count_world.specs.Readers.{IsLinked};
+ghost use Rattle.count_world.specs.Sets.{counts_off, is_updated, without};
 
-use crate::counts::{
-    bury, mark_announced, mark_dead, mark_dying, put_row_lengths, take_deltas, take_off,
-};
-use crate::told::count_told;
+use crate::census::{Census, master_count};
+use crate::lists::{copy_list, list_again, wipe_at, zeros};
+use crate::readers::Readers;
+use crate::saved::copy_changing;
+use crate::tally::Tally;
+use mirror_places::PlaceTable;
 use px_base::{Memory, Part, Update, Value};
 use std::alloc::Global;
 use std::mem;
 
-/// What a world knows of its masters, and room for what a step notes. Sets are lists with 1 at each member.
+/// What a world knows of its masters, the tables that say whom a death concerns, and room for what a step notes: whose
+/// death is told again, who died in it, and the counts and the list of before.
 #[derive(Drop)]
 pub struct Known {
-    pub alive: Vec<Value>,
-    pub counts: Vec<Value>,
-    pub next: Vec<Value>,
-    pub dying: Vec<Value>,
-    pub announced: Vec<Value>,
-    pub times: Vec<Value>,
-}
-
-/// How many masters the part has.
-fn master_count(part: &Part) -> usize
-    ensures { result ≡ part.now.high - part.now.low }
-{
-    part.high.saturating_sub(part.low) as usize
-}
-
-/// Writes the counts as a Step reads them. A fresh one begins them anew.
-fn read_counts(
-    part: &Part,
-    fresh: bool,
-    alive: &[Value],
-    counts: &[Value],
-    dead: &mut [Value],
-    next: &mut [Value],
-)
-    requires fits { PartFits part.now }
-    requires alive { length alive.now ≡ part.now.high - part.now.low }
-    requires counts { length counts.now ≡ part.now.high - part.now.low }
-    requires dead { length dead.old ≡ part.now.high - part.now.low }
-    requires next { length next.old ≡ part.now.high - part.now.low }
-    ensures { next.new ≡ counts_read fresh part.now alive.now counts.now }
-{
-    if fresh {
-        mark_dead(alive, dead);
-        put_row_lengths(part, next);
-        take_off(part, dead, next);
-    } else {
-        next.copy_from_slice(counts);
-    }
-}
-
-fn some_in(set: &[Value]) -> bool
-    ensures { result ≡ list_any (is_in set.now) (positions_below (length set.now)) }
-{
-    (0..set.len()).any(|k| set[k] == 1)
+    pub census: Census,
+    pub readers: Readers,
+    pub places: PlaceTable,
+    pub again: Vec<u32>,
+    pub gone: Vec<u32>,
+    pub saved: Vec<Value>,
+    pub tally: Tally,
 }
 
 impl Known {
     /// All masters are alive, and each counts its whole row.
-    pub fn new(alloc: Global, part: &Part) -> Result<Known, Memory>
-        requires { PartFits part.now }
-        ensures room { IfOk result (λ known. HasRoom part.now known) }
-        ensures alive { IfOk result (λ known. known.alive.items ≡ replicate (length part.now.rows) 1) }
-        ensures counts { IfOk result (λ known. known.counts.items ≡ map length part.now.rows) }
+    pub fn new(alloc: Global, part: &Part, needed: u32) -> Result<Known, Memory>
+        requires fits { PartFits part.now }
+        requires reads { read_count part.now.rows ≤ 2 ^ 25 }
+        ensures ready { IfOk result (λ known. IsReady part.now known) }
+        ensures needed { IfOk result (λ known. known.census.needed ≡ needed) }
+        ensures alive { IfOk result (λ known. known.census.alive.items ≡ replicate (length part.now.rows) 1) }
+        ensures counts { IfOk result (λ known. known.census.counts.items ≡ map length part.now.rows) }
     {
         let count = master_count(part);
-        let mut counts = vec![in alloc; 0; count]?;
-        put_row_lengths(part, counts.as_mut_slice());
+        let mirrors = part.mirrors.as_slice();
         Ok(Known {
-            alive: vec![in alloc; 1; count]?,
-            counts,
-            next: vec![in alloc; 0; count]?,
-            dying: vec![in alloc; 0; count]?,
-            announced: vec![in alloc; 0; count]?,
-            times: vec![in alloc; 0; part.mirrors.as_slice().len()]?,
+            census: Census::new(alloc, part, needed)?,
+            readers: Readers::new(alloc, part)?,
+            places: PlaceTable::new(alloc, mirrors)?,
+            again: Vec::with_capacity(alloc, count)?,
+            gone: Vec::with_capacity(alloc, count)?,
+            saved: zeros(alloc, count)?,
+            tally: Tally::new(alloc, mirrors)?,
         })
     }
 
-    /// Notes what a Step does, and changes nothing yet. Says whether some master dies.
-    pub fn prepare(&mut self, part: &Part, needed: u32, fresh: bool, updates: &[Update]) -> bool
+    /// Takes off the counts what a Step does, and notes what that tells. What is to be put back without memory is kept.
+    fn prepare(&mut self, part: &Part, fresh: bool, updates: &[Update])
         requires fits { PartFits part.now }
         requires reads { read_count part.now.rows ≤ 2 ^ 25 }
-        requires alive { length self.old.alive.items ≡ part.now.high - part.now.low }
-        requires counts { length self.old.counts.items ≡ part.now.high - part.now.low }
-        requires room { HasRoom part.now self.old }
+        requires ready { IsReady part.now self.old }
         requires known { All (λ u. IsTrue (is_within part.now.low part.now.high u.vertex)) updates.now }
-        ensures room { HasRoom part.now self.new }
-        ensures alive { self.new.alive.items ≡ self.old.alive.items }
-        ensures counts { self.new.counts.items ≡ self.old.counts.items }
-        ensures next { self.new.next.items ≡ counts_less part.now.low updates.now (counts_read fresh part.now self.old.alive.items self.old.counts.items) }
-        ensures dying { self.new.dying.items ≡ dying_set self.old.alive.items self.new.next.items needed }
-        ensures times { self.new.times.items ≡ map (times_told part.now (is_in (announced_set fresh self.old.alive.items self.new.dying.items))) part.now.mirrors }
-        ensures some { result ≡ list_any (is_in self.new.dying.items) (positions_below (length self.new.dying.items)) }
+        ensures { IsNoted part.now fresh updates.now self.old self.new }
     {
-        let (alive, counts) = (self.alive.as_slice(), self.counts.as_slice());
-        let (next, dying) = (self.next.as_mut_slice(), self.dying.as_mut_slice());
-        let announced = self.announced.as_mut_slice();
-        read_counts(part, fresh, alive, counts, announced, next);
-        take_deltas(part, updates, next);
-        mark_dying(alive, next, needed, dying);
-        mark_announced(fresh, alive, dying, announced);
-        count_told(part, announced, self.times.as_mut_slice());
-        some_in(dying)
+        list_again(fresh, self.census.alive.as_slice(), &mut self.again);
+        copy_list(self.census.dying.as_slice(), &mut self.gone);
+        let counts = self.census.counts.as_slice();
+        copy_changing(part, fresh, updates, counts, &mut self.saved);
+        self.census.begin(part, fresh);
+        let again = self.again.as_slice();
+        self.readers.take_off(again, &mut self.census);
+        self.census.take_deltas(part, updates);
+        let dying = self.census.dying.as_slice();
+        self.tally.count(part, &self.places, again, dying);
     }
 
-    /// Does what was noted: the dying die, and each count loses the reads of those.
-    pub fn commit(&mut self, part: &Part)
-        requires fits { PartFits part.now }
-        requires alive { length self.old.alive.items ≡ part.now.high - part.now.low }
-        requires counts { length self.old.counts.items ≡ part.now.high - part.now.low }
-        requires room { HasRoom part.now self.old }
-        ensures room { HasRoom part.now self.new }
-        ensures alive { self.new.alive.items ≡ living_set self.old.alive.items self.old.dying.items }
-        ensures counts { self.new.counts.items ≡ counts_without part.now (is_in self.old.dying.items) self.old.next.items }
+    /// Lets those on the list die, and takes their reads off the counts.
+    fn commit(&mut self)
+        requires census { IsCensus self.old.census }
+        requires linked { IsLinked (length self.old.census.alive.items) self.old.readers }
+        requires room { length self.old.census.alive.items ≤ vec_capacity self.old.gone }
+        ensures census { IsCensus self.new.census }
+        ensures tables { (part : PartData) → HasTables part self.old → HasTables part self.new }
+        ensures needed { self.new.census.needed ≡ self.old.census.needed }
+        ensures alive { self.new.census.alive.items ≡ without self.old.census.dying.items self.old.census.alive.items }
+        ensures counts { self.new.census.counts.items ≡ counts_off self.old.readers self.old.census.dying.items self.old.census.counts.items }
+        ensures gone { self.new.gone.items ≡ self.old.census.dying.items }
+        ensures again { self.new.again ≡ self.old.again }
+        ensures readers { self.new.readers ≡ self.old.readers }
+        ensures tally { self.new.tally ≡ self.old.tally }
     {
-        let dying = self.dying.as_slice();
-        take_off(part, dying, self.next.as_mut_slice());
-        bury(dying, self.alive.as_mut_slice());
-        mem::swap(&mut self.counts, &mut self.next);
+        mem::swap(&mut self.census.dying, &mut self.gone);
+        self.census.dying.clear();
+        let gone = self.gone.as_slice();
+        wipe_at(gone, &mut self.census.alive);
+        self.readers.take_off(gone, &mut self.census);
+    }
+
+    /// Puts back the counts that were changed, and the list.
+    fn put_back(&mut self, part: &Part, fresh: bool, updates: &[Update])
+        requires counts { length self.old.census.counts.items ≡ part.now.high - part.now.low }
+        requires saved { length self.old.saved.items ≡ part.now.high - part.now.low }
+        requires known { All (λ u. IsTrue (is_within part.now.low part.now.high u.vertex)) updates.now }
+        ensures counts { (j : ℕ) → j < length self.old.census.counts.items → slice_index self.new.census.counts.items j ≡ (if fresh || is_updated part.now.low updates.now j then slice_index self.old.saved.items j else slice_index self.old.census.counts.items j) }
+        ensures size { length self.new.census.counts.items ≡ length self.old.census.counts.items }
+        ensures dying { self.new.census.dying ≡ self.old.gone }
+        ensures gone { self.new.gone ≡ self.old.census.dying }
+        ensures needed { self.new.census.needed ≡ self.old.census.needed }
+        ensures alive { self.new.census.alive ≡ self.old.census.alive }
+        ensures saved { self.new.saved ≡ self.old.saved }
+        ensures again { self.new.again ≡ self.old.again }
+        ensures readers { self.new.readers ≡ self.old.readers }
+        ensures places { self.new.places ≡ self.old.places }
+        ensures tally { self.new.tally ≡ self.old.tally }
+    {
+        let saved = self.saved.as_slice();
+        copy_changing(part, fresh, updates, saved, &mut self.census.counts);
+        mem::swap(&mut self.census.dying, &mut self.gone);
+    }
+
+    /// A Step: says whether some master dies, and what is told of it. It takes no memory but for what is told, and want of
+    /// it changes nothing.
+    pub fn step(
+        &mut self,
+        alloc: Global,
+        part: &Part,
+        fresh: bool,
+        updates: &[Update],
+    ) -> Result<(bool, Vec<Update>), Memory>
+        requires fits { PartFits part.now }
+        requires reads { read_count part.now.rows ≤ 2 ^ 25 }
+        requires ready { IsReady part.now self.old }
+        requires known { All (λ u. IsTrue (is_within part.now.low part.now.high u.vertex)) updates.now }
+        ensures ready { IsReady part.now self.new }
+        ensures needed { self.new.census.needed ≡ self.old.census.needed }
+        ensures ok { IfOk result (λ r. IsStepped part.now fresh updates.now self.old self.new r.0 r.1.items) }
+        ensures kept_alive { OnErr result (self.new.census.alive.items ≡ self.old.census.alive.items) }
+        ensures kept_counts { OnErr result (self.new.census.counts.items ≡ self.old.census.counts.items) }
+    {
+        self.prepare(part, fresh, updates);
+        let told = self.tally.updates(alloc, part.mirrors.as_slice());
+        self.tally.wipe();
+        match told {
+            Ok(told) => {
+                self.commit();
+                Ok((!self.gone.as_slice().is_empty(), told))
+            }
+            Err(Memory) => {
+                self.put_back(part, fresh, updates);
+                Err(Memory)
+            }
+        }
     }
 }

@@ -2,9 +2,12 @@
 //! neighbours each of them counts.
 #![tactic(auto)]
 
-mod counts;
+mod census;
 mod known;
-mod told;
+mod lists;
+mod readers;
+mod saved;
+mod tally;
 mod world;
 
 pub use px_base::StepFault;

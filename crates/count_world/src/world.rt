@@ -1,7 +1,6 @@
 ghost use Rattle.std.specs.Prelude.{◌≡◌, IfOk};
 
 use crate::known::Known;
-use crate::told::told_updates;
 use px_base::{Answer, Items, Memory, Order, Part, Pos, StepFault, Update, Value};
 use std::alloc::Global;
 use std::marker::Model;
@@ -18,7 +17,6 @@ fn copy_of(alloc: Global, values: &[Value]) -> Result<Vec<Value>, Memory>
 pub struct CountWorld {
     alloc: Global,
     part: Part,
-    needed: u32,
     epoch: u32,
     round: u64,
     known: Known,
@@ -53,11 +51,10 @@ impl CountWorld {
         requires reads { read_count part.rows ≤ 2 ^ 25 }
         ensures { IfOk result (λ w. w ≡ new_count_world part k) }
     {
-        let known = Known::new(alloc, &part)?;
+        let known = Known::new(alloc, &part, k)?;
         Ok(CountWorld {
             alloc,
             part,
-            needed: k,
             epoch: 0,
             round: 0,
             known,
@@ -69,13 +66,16 @@ impl CountWorld {
         ensures flags { result.now ≡ self.now.alive }
         ensures kept { KeepsCounts self.now }
     {
-        self.known.alive.as_slice()
+        self.known.census.alive.as_slice()
     }
 
     /// One step. A Step of the world's epoch or a later one takes its updates off the counts, and lets the masters whose
     /// count is too low die at once; where its epoch is later, the counts begin anew. A Report of the world's epoch is
     /// answered by which masters are alive. Errors: the epoch doesn't go with the world's, an update is of a vertex that is
     /// no master, want of memory. An error changes nothing.
+    ///
+    /// A Step costs its updates, the rows and the readers of the masters that die in it, and putting in order the mirrors
+    /// that stand in these rows. A fresh one also costs a pass over all masters, and the rows and the readers of all dead.
     pub fn step(&mut self, order: &Order) -> Result<Answer, StepFault>
         ensures ok { IfOk result (λ answer. count_step self.old order.now ≡ Ok (record { world = self.new; answer = answer })) }
         ensures refused { IfErr result (λ fault. Refuses fault (world_step (of_counts self.old) order.now)) }
@@ -154,7 +154,7 @@ impl CountWorld {
         }
     }
 
-    /// A Step that isn't refused. All is noted before anything changes, so that want of memory changes nothing.
+    /// A Step that isn't refused.
     #[tactic(auto, using(crate::proofs::Foreign::all_taken))]
     fn count(&mut self, epoch: u32, round: u64, updates: &[Update]) -> Result<Answer, Memory>
         requires epoch { self.old.epoch ≤ epoch }
@@ -163,10 +163,7 @@ impl CountWorld {
         ensures kept { OnErr result (self.new ≡ self.old) }
     {
         let fresh = self.epoch < epoch;
-        let changed = self.known.prepare(&self.part, self.needed, fresh, updates);
-        let mirrors = self.part.mirrors.as_slice();
-        let told = told_updates(self.alloc, mirrors, self.known.times.as_slice())?;
-        self.known.commit(&self.part);
+        let (changed, told) = self.known.step(self.alloc, &self.part, fresh, updates)?;
         self.epoch = epoch;
         self.round = round;
         Ok(Answer::Stepped {

@@ -17,6 +17,7 @@ use Rattle.px_base.specs.declared.memory.Memory.{Memory}
 use Rattle.px_base.specs.Values.{IsValue, positions_below, is_listed}
 use Rattle.px_base.specs.Graphs.{RowsFit, read_count}
 use Rattle.px_base.specs.Parts.{IsCuts, IsWorkerCuts, PartFits, low_of, high_of, part_count, is_within, is_master, is_mirror, is_routed, part_rows, part_of, mirrors_of, boundary_of, route_of, reads_from}
+use Rattle.partitioner.specs.Pieces.{part_with}
 use Rattle.partitioner.proofs.Owned.{low_below_high, high_inside}
 use Rattle.partitioner.proofs.Found.{position_has}
 use Rattle.partitioner.proofs.Boundaries.{within}
@@ -45,7 +46,7 @@ not_first true b h = absurd (cc)
 not_first false b h = refl
 
 -- a mirror is a vertex outside the range
-mirrors_below : (rows : List (List Read)) (cuts : List ℕ) (i : ℕ) → All (λ m. m < length rows) (mirrors_of rows cuts i)
+pub mirrors_below : (rows : List (List Read)) (cuts : List ℕ) (i : ℕ) → All (λ m. m < length rows) (mirrors_of rows cuts i)
 mirrors_below rows cuts i = All-filter (is_mirror rows cuts i) (λ m. m < length rows) (positions_below (length rows)) (range_holds (λ m. m < length rows) 0 (length rows) (λ v from to. omega arith))
 
 mirrors_outside : (rows : List (List Read)) (cuts : List ℕ) (i : ℕ) → length rows ≤ 2 ^ 22 → All (λ m. (m < 2 ^ 22) × (is_within (low_of cuts i) (high_of cuts i) m ≡ false)) (mirrors_of rows cuts i)
@@ -118,11 +119,10 @@ part_fits n rows starts cuts i most fit size values c below =
 
 -- ---- what a call that makes the part says of it
 
-pub part_is : (rows all : List (List Read)) (starts cuts ends : List ℕ) (i : ℕ) (own : List (List Read)) (own_starts mirrors mirror_starts boundary : List ℕ) → ends ≡ cuts → all ≡ rows →
-    own ≡ slice_range all (get_or ends i 0) (get_or ends (i + 1) 0) → own_starts ≡ slice_range starts (get_or ends i 0) (get_or ends (i + 1) 0) →
-    mirrors ≡ mirrors_of rows cuts i → mirror_starts ≡ map (slice_index starts) mirrors → boundary ≡ boundary_of rows cuts i →
-    record { index = i; low = get_or ends i 0; high = get_or ends (i + 1) 0; rows = own; starts = own_starts; mirrors = mirrors; mirror_starts = mirror_starts; boundary = boundary } ≡ part_of rows starts cuts i
-part_is rows all starts cuts ends i own own_starts mirrors mirror_starts boundary same_cuts same_rows a b c d e = rw (a, b, d, e, c, same_cuts, same_rows) refl
+pub pieced : (r : Result Part Memory) (rows own : List (List Read)) (starts cuts mirrors boundary : List ℕ) (i : ℕ) → own ≡ part_rows rows cuts i → mirrors ≡ mirrors_of rows cuts i → boundary ≡ boundary_of rows cuts i →
+    IfOk r (λ part. part ≡ part_with own starts cuts i mirrors boundary) → IfOk r (λ part. part ≡ part_of rows starts cuts i)
+pieced (Ok part) rows own starts cuts mirrors boundary i a b c is = is ∙ (rw (a, b, c) refl)
+pieced (Err e) rows own starts cuts mirrors boundary i a b c is = tt
 
 -- what holds of the part holds of what the call made
 pub made : (r : Result Part Memory) (p : Part) (P : Part → Type 0) → IfOk r (λ part. part ≡ p) → P p → IfOk r P

@@ -12,7 +12,7 @@ pub record PassesAt {X : Type 0} (p : X → Bool) (xs : List X) (d : X) (k : ℕ
   pub inside : k < length xs
   pub passes : p (get_or xs k d) ≡ true
 
-passing : {X : Type 0} (p : X → Bool) (xs : List X) (d : X) → list_any p xs ≡ true → (k : ℕ) × PassesAt p xs d k
+pub passing : {X : Type 0} (p : X → Bool) (xs : List X) (d : X) → list_any p xs ≡ true → (k : ℕ) × PassesAt p xs d k
 passing p xs d h =
     let found : Any (λ x. p x ≡ true) xs = Any-from_list_any p xs h in
     (found.0, record { inside = found.2; passes = ap p (get_or_default xs found.0 d found.1 found.2 ∙ found.3) ∙ found.4 })

@@ -3,7 +3,12 @@ pub mod Blocks
 pub mod Boundaries
 pub mod Fitting
 pub mod Found
+pub mod LowestBits
 pub mod Marked
+pub mod Mirrors
+pub mod Moved
 pub mod Owned
+pub mod Parted
+pub mod PositionSets
 pub mod Ranges
 pub mod Routed

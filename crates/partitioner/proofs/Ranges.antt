@@ -56,8 +56,3 @@ gap p m (suc n) within none = elim (cases_lt n m) [
   | inr more ↦ (let one : n + 1 ≡ suc n = omega arith in
       ap (λ k. filter p (positions_below k)) (sym one) ∙ gap_at p m n (none n more (omega arith)) (gap p m n more (λ k low high. none k low (omega arith))))
 ]
-
--- one that passes, and then a stretch in which nothing passes
-pub found_next : (p : ℕ → Bool) (at next : ℕ) (before now : List ℕ) → p at ≡ true → at + 1 ≤ next → ((k : ℕ) → at + 1 ≤ k → k < next → p k ≡ false) →
-    before ≡ filter p (positions_below at) → now ≡ before ++ at ∷ [] → now ≡ filter p (positions_below next)
-found_next p at next before now here after none is more = placed_yes p at before now here is more ∙ sym (gap p (at + 1) next after none)

@@ -4,9 +4,9 @@
 
 mod cuts;
 mod laws;
-mod lists;
 mod marks;
 mod parts;
+mod sets;
 mod tables;
 mod whole;
 mod words;

@@ -2,7 +2,8 @@ ghost use Rattle.std.specs.Prelude.{◌≡◌, ◌≤◌, ◌<◌, ◌+◌, ◌-
 ghost use Rattle.std.specs.List.{list_any, range_with_len};
 ghost use Rattle.px_base.specs.Values.{IsValue, positions_below};
 ghost use Rattle.px_base.specs.Graphs.{HasWeights, RowsFit, read_count};
-ghost use Rattle.px_base.specs.Parts.{IsWorkerCuts, PartFits, is_within, part_count, part_of, mirrors_of, boundary_of, reads_from};
+ghost use Rattle.px_base.specs.Parts.{IsWorkerCuts, PartFits, is_within, part_count, part_of, part_rows, mirrors_of, boundary_of, reads_from};
+ghost use Rattle.partitioner.specs.Pieces.{part_with};
 
 use crate::cuts::Cuts;
 use crate::marks::{mark_rows, marked_inside, marked_outside};
@@ -139,29 +140,42 @@ fn boundary_of_part(
     boundary(alloc, graph.rows.as_slice(), low, high)
 }
 
-/// Part `i` with these mirrors and this boundary.
-#[tactic(auto, using(crate::proofs::Fitting::mirrors_within, crate::proofs::Fitting::part_is, crate::proofs::Owned::low_below_high, crate::proofs::Owned::high_inside))]
-pub fn assemble(
+/// Copies of the rows of part `i`.
+#[tactic(auto, using(crate::proofs::Owned::low_below_high, crate::proofs::Owned::high_inside))]
+fn rows_of_part(
     alloc: Global,
     graph: &ReadGraph,
+    cuts: &Cuts,
+    i: u32,
+) -> Result<Vec<Items<Read>>, Memory>
+    requires one_each { length graph.now.rows ≡ graph.now.n }
+    requires cuts { IsWorkerCuts graph.now.n cuts.now.ends }
+    requires part { i < part_count cuts.now.ends }
+    ensures { IfOk result (λ own. own.items ≡ part_rows graph.now.rows cuts.now.ends i) }
+{
+    let ends = cuts.ends.as_slice();
+    let (low, high) = (ends[i as usize], ends[i as usize + 1]);
+    copied_rows(alloc, &graph.rows.as_slice()[low as usize..high as usize])
+}
+
+/// Part `i` with these rows, mirrors and boundary.
+#[tactic(auto, using(crate::proofs::Owned::low_below_high, crate::proofs::Owned::high_inside))]
+pub fn assemble(
+    alloc: Global,
+    own: Vec<Items<Read>>,
     starts: &[Value],
     cuts: &Cuts,
     i: u32,
     mirrors: Vec<Pos>,
     boundary: Vec<Pos>,
 ) -> Result<Part, Memory>
-    requires rows { RowsFit graph.now.n graph.now.rows }
-    requires cuts { IsWorkerCuts graph.now.n cuts.now.ends }
-    requires one_each { length starts.now ≡ graph.now.n }
+    requires cuts { IsWorkerCuts (length starts.now) cuts.now.ends }
     requires part { i < part_count cuts.now.ends }
-    requires mirrors { mirrors.items ≡ mirrors_of graph.now.rows cuts.now.ends i }
-    requires boundary { boundary.items ≡ boundary_of graph.now.rows cuts.now.ends i }
-    ensures { IfOk result (λ part. part ≡ part_of graph.now.rows starts.now cuts.now.ends i) }
+    requires mirrors { All (λ u. u < length starts.now) mirrors.items }
+    ensures { IfOk result (λ part. part ≡ part_with own.items starts.now cuts.now.ends i mirrors.items boundary.items) }
 {
     let ends = cuts.ends.as_slice();
     let (low, high) = (ends[i as usize], ends[i as usize + 1]);
-    let rows = graph.rows.as_slice();
-    let own = copied_rows(alloc, &rows[low as usize..high as usize])?;
     let own_starts = Vec::from_slice(alloc, &starts[low as usize..high as usize])?;
     let mirror_starts = values_at(alloc, starts, mirrors.as_slice())?;
     Ok(Part {
@@ -200,5 +214,6 @@ pub fn part(
 {
     let mirrors = mirrors_of_part(alloc, graph, cuts, i)?;
     let boundary = boundary_of_part(alloc, graph, cuts, i)?;
-    assemble(alloc, graph, starts, cuts, i, mirrors, boundary)
+    let own = rows_of_part(alloc, graph, cuts, i)?;
+    assemble(alloc, own, starts, cuts, i, mirrors, boundary)
 }

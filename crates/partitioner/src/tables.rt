@@ -1,10 +1,10 @@
 ghost use Rattle.std.specs.Prelude.{◌≡◌, ◌≤◌, ◌<◌, ◌&&◌, ℕ, nat_lt, All, IfOk, filter, length, slice_index};
 ghost use Rattle.px_base.specs.Values.{by_position, positions_below};
 ghost use Rattle.px_base.specs.Parts.{IsWorkerCuts, is_mirror, part_count, routes_of};
-ghost use Rattle.partitioner.specs.Bits.{has_bit};
+ghost use Rattle.partitioner.specs.Bits.{HasBitsBelow, has_bit};
 
 use crate::cuts::Cuts;
-use crate::words::{bits_of, mirror_words};
+use crate::words::{all_mirrors, bits_of};
 use px_base::{Items, Memory, ReadGraph};
 use std::alloc::Global;
 
@@ -14,38 +14,20 @@ pub struct RouteTable {
     pub to: Items<Items<u32>>,
 }
 
-/// The bits of each word.
+/// The bits of each word, rising.
 #[tactic(auto, using(px_base::proofs::Positions::by_position_more))]
-fn bit_table(alloc: Global, words: &[u64], most: u32) -> Result<RouteTable, Memory>
-    requires { most ≤ 64 }
-    ensures { IfOk result (λ table. table.to ≡ by_position (length words.now) (λ u. filter (has_bit (slice_index words.now u)) (positions_below most))) }
+pub fn bit_table(alloc: Global, words: &[u64]) -> Result<RouteTable, Memory>
+    ensures { IfOk result (λ table. (most : ℕ) → ((u : ℕ) → HasBitsBelow (slice_index words.now u) most) →
+        table.to ≡ by_position (length words.now) (λ u. filter (has_bit (slice_index words.now u)) (positions_below most))) }
 {
     let mut to = Vec::with_capacity(alloc, words.len())?;
     for word in words {
-        let route = bits_of(alloc, *word, most)?;
+        let route = bits_of(alloc, *word)?;
         to.push(Items::from_vec(route))?;
     }
     Ok(RouteTable {
         to: Items::from_vec(to),
     })
-}
-
-/// The routes, by the words of all positions.
-pub fn routes_by(
-    alloc: Global,
-    words: &[u64],
-    graph: &ReadGraph,
-    cuts: &Cuts,
-) -> Result<RouteTable, Memory>
-    requires one_each { length graph.now.rows ≡ graph.now.n }
-    requires sources { All (λ row. All (λ r. r.source < graph.now.n) row) graph.now.rows }
-    requires cuts { IsWorkerCuts graph.now.n cuts.now.ends }
-    requires size { length words.now ≡ graph.now.n }
-    requires bits { (u k : ℕ) → has_bit (slice_index words.now u) k ≡ (nat_lt k (part_count cuts.now.ends) && is_mirror graph.now.rows cuts.now.ends k u) }
-    ensures { IfOk result (λ table. table.to ≡ routes_of graph.now.rows cuts.now.ends) }
-{
-    let parts = (cuts.ends.as_slice().len() - 1) as u32;
-    bit_table(alloc, words, parts)
 }
 
 /// The route of each position: the parts that mirror it, rising. It takes one pass over the reads.
@@ -58,6 +40,6 @@ pub fn routes(alloc: Global, graph: &ReadGraph, cuts: &Cuts) -> Result<RouteTabl
     requires cuts { IsWorkerCuts graph.now.n cuts.now.ends }
     ensures { IfOk result (λ table. table.to ≡ routes_of graph.now.rows cuts.now.ends) }
 {
-    let words = mirror_words(alloc, graph, cuts)?;
-    routes_by(alloc, words.as_slice(), graph, cuts)
+    let all = all_mirrors(alloc, graph, cuts)?;
+    bit_table(alloc, all.words.as_slice())
 }

@@ -52,7 +52,7 @@ fn joined(alloc: Global, n: u32, worlds: &[World]) -> Result<Vec<Value>, Memory>
 pub fn settled<R: Threads + Sync>(
     rt: &R,
     alloc: Global,
-    graph: &ReadGraph,
+    graph: ReadGraph,
     core: CoreProgram,
     starts: &[Value],
     cuts: &Cuts,
@@ -61,13 +61,14 @@ pub fn settled<R: Threads + Sync>(
     requires keeps { IsTrue (keeps core.program.own) }
     requires mex { IsFalse (is_mex core.program.fold) }
     requires count { IsFalse (counts_reads core.program.fold) }
-    requires rows { RowsFit graph.now.n graph.now.rows }
-    requires vertices { graph.now.n ≤ 2 ^ 22 }
-    requires reads { read_count graph.now.rows ≤ 2 ^ 25 }
-    requires starts { IsValueList graph.now.n starts.now }
-    requires cuts { IsWorkerCuts graph.now.n cuts.now.ends }
-    ensures { IfOk result (λ values. IsGreatestCoreConsistent core graph.now.rows starts.now values.items) }
+    requires rows { RowsFit graph.n graph.rows }
+    requires vertices { graph.n ≤ 2 ^ 22 }
+    requires reads { read_count graph.rows ≤ 2 ^ 25 }
+    requires starts { IsValueList graph.n starts.now }
+    requires cuts { IsWorkerCuts graph.n cuts.now.ends }
+    ensures { IfOk result (λ values. IsGreatestCoreConsistent core graph.rows starts.now values.items) }
 {
+    let n = graph.n;
     let (parts, routes) = parts_and_routes(alloc, graph, starts, cuts)?;
     let mut worlds = new_worlds(alloc, parts, core)?;
     let mut inboxes = empty_inboxes(alloc, worlds.len())?;
@@ -75,7 +76,7 @@ pub fn settled<R: Threads + Sync>(
     loop {
         let sent = step_all(rt, alloc, round, &mut worlds, &mut inboxes)?;
         if are_still(&sent) {
-            return joined(alloc, graph.n, &worlds);
+            return joined(alloc, n, &worlds);
         }
         deliver(&mut inboxes, routes.to.as_slice(), &sent)?;
         round = round.saturating_add(1);

@@ -42,18 +42,18 @@ fn turn_back(core: &CoreProgram, values: &mut [Value])
 pub fn solve_in_rounds<R: Threads + Sync>(
     rt: &R,
     alloc: Global,
-    graph: &ReadGraph,
+    graph: ReadGraph,
     program: &Program,
     starts: &[Value],
     workers: u32,
 ) -> Result<Vec<Value>, Memory>
     requires class { class_of program.now ≡ Ok LocallyCorrecting }
-    requires rows { RowsFit graph.now.n graph.now.rows }
-    requires vertices { graph.now.n ≤ 2 ^ 22 }
-    requires reads { read_count graph.now.rows ≤ 2 ^ 25 }
-    requires starts { IsValueList graph.now.n starts.now }
+    requires rows { RowsFit graph.n graph.rows }
+    requires vertices { graph.n ≤ 2 ^ 22 }
+    requires reads { read_count graph.rows ≤ 2 ^ 25 }
+    requires starts { IsValueList graph.n starts.now }
     requires workers { (1 ≤ workers) × (workers ≤ 64) }
-    ensures { IfOk result (λ values. IsGreatestConsistent program.now graph.now.rows starts.now values.items) }
+    ensures { IfOk result (λ values. IsGreatestConsistent program.now graph.rows starts.now values.items) }
 {
     let core = core_form(program);
     let core_starts = core_starts(alloc, &core, starts)?;

@@ -1,8 +1,7 @@
-use Rattle.std.proofs.Common.{◌≡◌}
-use Rattle.px_base.specs.Values.{by_position}
-use Rattle.px_base.specs.Parts.{part_of}
+use Rattle.std.specs.Vec.Iter.{into_iter_items}
+use Rattle.partitioner.proofs.Parted.{ArePartsSoFar}
 use Rattle.partitioner.proofs.whole.parts_by.Given as goal
 
--- the parts so far
-abbrev pub invariant-loop-i : goal.invariant-loop-i
-invariant-loop-i l = l.parts.items ≡ by_position l.i (part_of l.graph.rows l.starts l.cuts.ends)
+-- the parts so far, and the rows of the others
+abbrev pub invariant-loop-list : goal.invariant-loop-list
+invariant-loop-list l = ArePartsSoFar l.fn.rows l.starts l.cuts.ends l.fn.lists.items l.yielded (into_iter_items l.list-iterator) l.parts.items (into_iter_items l.rest)

@@ -1,20 +1,13 @@
-use Rattle.std.proofs.Common.{arith, ◌∙◌, sym}
-use Rattle.std.proofs.lemmas.Grind.{common_steps}
-use Rattle.partitioner.specs.Bits.{has_bit}
-use Rattle.partitioner.proofs.Ranges.{gap, found_next}
+use Rattle.std.proofs.Common.{arith}
+use Rattle.partitioner.proofs.LowestBits.{none_found, next_found, all_found}
 use Rattle.partitioner.proofs.words.bits_of.Goals as goal
 
-pub loop-at-init : goal.loop-at-init
-loop-at-init c = record {
-  so_far = c.in_ok-found.ensures.items ∙ sym (gap (has_bit c.args.word) 0 c.next_bit-at.result c.next_bit-at.ensures.from c.next_bit-at.ensures.none);
-  within = c.next_bit-at.ensures.within;
-  next = c.next_bit-at.ensures.has;
-}
+pub loop-rest-init : goal.loop-rest-init
+loop-rest-init c = none_found c.args.word c.in_ok-found.found.items (omega arith) c.in_ok-found.ensures.items
 
-pub loop-at-preserved : goal.loop-at-preserved
-loop-at-preserved c = record {
-  so_far = found_next (has_bit c.args.word) c.loop-at.at c.next_bit-at-in-loop-at.result c.loop-at.found.items c.push.new.self.items (c.loop-at.invariant.next (omega arith))
-      c.next_bit-at-in-loop-at.ensures.from c.next_bit-at-in-loop-at.ensures.none c.loop-at.invariant.so_far (grind (arith, common_steps));
-  within = c.next_bit-at-in-loop-at.ensures.within;
-  next = c.next_bit-at-in-loop-at.ensures.has;
-}
+pub loop-rest-preserved : goal.loop-rest-preserved
+loop-rest-preserved c =
+    next_found c.args.word c.loop-rest.rest c.without_lowest-rest.result c.loop-rest.found.items c.push.new.self.items (omega arith) (omega arith) c.without_lowest-rest.ensures.bits c.in_ok-push.ensures.items c.loop-rest.invariant
+
+pub returns : goal.returns
+returns c = λ most below. all_found c.args.word c.loop-rest.rest most c.loop-rest.found.items (omega arith) c.loop-rest.invariant below

@@ -138,7 +138,8 @@ fn is_lower_triple(a: &Triple, b: &Triple) -> bool
             && (a.source < b.source || (a.source == b.source && a.weight < b.weight)))
 }
 
-fn never_fall(triples: &[Triple]) -> bool
+/// Whether no triple stands before the one in front of it.
+pub fn never_fall(triples: &[Triple]) -> bool
     ensures { IsTrue result ↔ IsSortedBy is_lower_triple triples.now }
 {
     triples

@@ -13,7 +13,7 @@ mod read_codes;
 mod setup;
 mod take;
 
-pub use fits::frame_fits;
+pub use fits::{frame_fits, never_fall};
 pub use kinds::{REPORTED, SETUP, body_length, kind_of, put_body, read_body};
 pub use numbers::{put, put_four};
 pub use px_base::{Frame, Setup, Triple};

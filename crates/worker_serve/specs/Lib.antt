@@ -1,0 +1,4 @@
+pub mod Sessions
+pub mod Stages
+pub mod Streams
+pub mod Talks

@@ -10,6 +10,8 @@ use Rattle.edge_reader.specs.declared.fault.EdgeFault.TheVariants as fault
 use Rattle.px_io.specs.Causes.{Rose, AppendsPrefix}
 use Rattle.command_words.specs.declared.command.ProgramFault.{ProgramFault}
 use Rattle.command_words.specs.declared.command.ProgramFault.TheVariants as program
+use Rattle.command_ends.specs.declared.stop.FrameFault.{FrameFault}
+use Rattle.command_ends.specs.declared.stop.FrameFault.TheVariants as frame
 use Rattle.command_ends.specs.declared.stop.Stop.{Stop}
 use Rattle.command_ends.specs.declared.stop.Stop.TheVariants as stop
 
@@ -47,6 +49,12 @@ refused_text refused.MexKept = codes "program refused: mex needs drop"
 refused_text refused.Cyclic = codes "program refused: drop needs an earlier order"
 refused_text (refused.Improves x w) = numbered (codes "program refused: edge value improves ") x (codes " at weight " ++ decimal w)
 
+-- the frame after so many bytes
+abbrev pub frame_text : ℕ → FrameFault → List ℕ
+frame_text at frame.NotAFrame = numbered (codes "frame at byte ") at (codes ": not a frame")
+frame_text at frame.Cut = numbered (codes "frame at byte ") at (codes ": cut")
+frame_text at frame.Refused = numbered (codes "frame at byte ") at (codes ": refused")
+
 -- why the command stopped
 abbrev pub stop_text : Stop → List ℕ
 stop_text stop.BadWords = codes "bad words"
@@ -57,6 +65,8 @@ stop_text (stop.Refused why) = refused_text why
 stop_text stop.ClassNotBuilt = codes "class not built"
 stop_text (stop.Input what) = input_text what
 stop_text (stop.UnknownSource id) = numbered (codes "source ") id (codes " is in no edge line")
+stop_text (stop.Frame at what) = frame_text at what
+stop_text stop.TooManyFrameBytes = codes "too many frame bytes"
 stop_text stop.WriteFault = codes "write fault"
 stop_text stop.Memory = codes "out of memory"
 

@@ -26,5 +26,7 @@ stop_status (stop.Refused why) = 4
 stop_status stop.ClassNotBuilt = 4
 stop_status (stop.Input what) = fault_status what
 stop_status (stop.UnknownSource id) = 12
+stop_status (stop.Frame at what) = 13
+stop_status stop.TooManyFrameBytes = 5
 stop_status stop.WriteFault = 7
 stop_status stop.Memory = 11

@@ -6,4 +6,4 @@ mod reports;
 mod stop;
 
 pub use reports::report;
-pub use stop::{Stop, stop_status};
+pub use stop::{FrameFault, Stop, stop_status};

@@ -1,8 +1,8 @@
 ghost use Rattle.std.specs.Prelude.{◌≤◌, ◌++◌, decimal, flat_map};
-ghost use Rattle.command_ends.specs.Lines.{IsLineAdded, input_text, line_of, numbered, program_text, refused_text, row_fault_text, stop_line};
+ghost use Rattle.command_ends.specs.Lines.{IsLineAdded, frame_text, input_text, line_of, numbered, program_text, refused_text, row_fault_text, stop_line};
 
-use crate::Stop;
 use crate::pieces::put_pieces;
+use crate::{FrameFault, Stop};
 use command_words::ProgramFault;
 use edge_reader::EdgeFault;
 use itoa::Buffer;
@@ -122,6 +122,20 @@ fn add_refused<F: Sink>(faults: &mut F, why: Refused)
     }
 }
 
+/// Appends the line of a fault of the frame at this place.
+fn add_frame<F: Sink>(faults: &mut F, at: u64, what: FrameFault)
+    ensures line { IsLineAdded (line_of (frame_text at what)) (F.written faults.old) (F.written faults.new) (F.faults faults.old) (F.faults faults.new) (F.wants faults.old) (F.wants faults.new) }
+    ensures faults_later { F.faults faults.old ≤ F.faults faults.new }
+    ensures wants_later { F.wants faults.old ≤ F.wants faults.new }
+{
+    let before = b"frame at byte ";
+    match what {
+        FrameFault::NotAFrame => add_numbered(faults, before, at, b": not a frame"),
+        FrameFault::Cut => add_numbered(faults, before, at, b": cut"),
+        FrameFault::Refused => add_numbered(faults, before, at, b": refused"),
+    }
+}
+
 /// Appends the one line that says why the command stopped, in pieces that take no memory. Where the sink fails a prefix of
 /// it is appended, and nothing else comes of that.
 pub fn report<F: Sink>(faults: &mut F, stop: Stop)
@@ -140,6 +154,8 @@ pub fn report<F: Sink>(faults: &mut F, stop: Stop)
         Stop::UnknownSource { id } => {
             add_numbered(faults, b"source ", id, b" is in no edge line")
         }
+        Stop::Frame { at, what } => add_frame(faults, at, what),
+        Stop::TooManyFrameBytes => add_line(faults, b"too many frame bytes"),
         Stop::WriteFault => add_line(faults, b"write fault"),
         Stop::Memory => add_line(faults, b"out of memory"),
     }

@@ -5,6 +5,17 @@ use command_words::ProgramFault;
 use edge_reader::EdgeFault;
 use px_base::{Id, Refused};
 
+/// What is wrong with a frame that a worker is served.
+#[derive(Clone, Copy, Debug, PartialEq, Eq)]
+pub enum FrameFault {
+    /// The bytes are none.
+    NotAFrame,
+    /// The input ends inside it.
+    Cut,
+    /// The worker doesn't take it.
+    Refused,
+}
+
 /// Why a command ends without a text.
 #[derive(Clone, Copy, Debug, PartialEq, Eq)]
 pub enum Stop {
@@ -24,6 +35,10 @@ pub enum Stop {
     Input(EdgeFault),
     /// No edge line has the vertex.
     UnknownSource { id: Id },
+    /// What begins after so many bytes of the input is no frame that a worker takes.
+    Frame { at: u64, what: FrameFault },
+    /// The input has more bytes of frames than a worker takes.
+    TooManyFrameBytes,
     /// The sink failed.
     WriteFault,
     /// Memory was wanting.
@@ -51,6 +66,8 @@ pub fn stop_status(stop: Stop) -> u8
         Stop::Program(_) | Stop::Refused(_) | Stop::ClassNotBuilt => 4,
         Stop::Input(fault) => fault_status(fault),
         Stop::UnknownSource { .. } => 12,
+        Stop::Frame { .. } => 13,
+        Stop::TooManyFrameBytes => 5,
         Stop::WriteFault => 7,
         Stop::Memory => 11,
     }

@@ -1,5 +1,5 @@
 -- What is left to do once the words, the program, its class and the number of sources are looked at, in this order.
-use Rattle.std.specs.Prelude.{ℕ, ◌≡◌, ⊤, Bool, true, false, not, ◌&&◌, ◌==◌, List, length, if◌then◌else◌, IsOk, Option, Some, None, Result, Ok, Err}
+use Rattle.std.specs.Prelude.{ℕ, ◌≡◌, ⊤, Bool, true, false, not, ◌&&◌, ◌==◌, List, length, if◌then◌else◌, IsOk, Result, Ok, Err}
 use Rattle.px_base.specs.declared.program.Program.{Program}
 use Rattle.px_base.specs.declared.program.Class.{Class}
 use Rattle.px_base.specs.declared.program.Class.TheVariants.{SelfStabilising, LocallyCorrecting, GloballyCorrecting}
@@ -7,8 +7,9 @@ use Rattle.px_base.specs.Classes.{class_of}
 use Rattle.px_base.specs.RowTexts.{IsRowProgram}
 use Rattle.px_base.specs.Starts.{needs_source, uses_weight}
 use Rattle.command_words.specs.declared.command.ProgramFault.{ProgramFault}
-use Rattle.command_words.specs.declared.command.Command.{Command}
-use Rattle.command_words.specs.declared.command.Command.TheVariants as command
+use Rattle.command_words.specs.declared.command.RunCommand.{RunCommand}
+use Rattle.command_words.specs.declared.command.SolveCommand.{SolveCommand}
+use Rattle.command_words.specs.declared.command.PartsCommand.{PartsCommand}
 use Rattle.command_words.specs.CommandFits.{IsWorkerCount}
 use Rattle.command_ends.specs.declared.stop.Stop.{Stop}
 use Rattle.command_ends.specs.declared.stop.Stop.TheVariants as stop
@@ -42,17 +43,18 @@ check_sources program sources =
 abbrev pub check_class : Class → Result (Unit {0}) Stop
 check_class class = if is_run_class class then Ok tt else Err stop.ClassNotBuilt
 
--- what the command leaves to do, or why it stops before that
-abbrev pub job_of : Command → Result Job Stop
-job_of (command.Run c) = unless_stopped (with_class c.program) (λ it. unless_stopped (check_class it.1) (λ _. unless_stopped (check_sources it.0 c.sources) (λ _. Ok (job.Run it.0 c.sources c.workers))))
-job_of (command.Solve c) = unless_stopped (with_class c.program) (λ it. unless_stopped (check_sources it.0 c.sources) (λ _. Ok (job.Solve it.0 c.sources c.unweighted)))
-job_of (command.Classify program) = unless_stopped (with_class program) (λ it. Ok (job.Classify it.1))
-job_of (command.Parts c) = unless_stopped (with_class c.program) (λ it. Ok (job.Parts it.0 c.workers c.unweighted))
+-- what each command that writes a text leaves to do, or why it stops before that
+abbrev pub run_job : RunCommand → Result Job Stop
+run_job c = unless_stopped (with_class c.program) (λ it. unless_stopped (check_class it.1) (λ _. unless_stopped (check_sources it.0 c.sources) (λ _. Ok (job.Run it.0 c.sources c.workers))))
 
--- the same of words, which may ask for nothing
-unfoldable pub plan_of : Option Command → Result Job Stop
-plan_of None = Err stop.BadWords
-plan_of (Some command) = job_of command
+abbrev pub solve_job : SolveCommand → Result Job Stop
+solve_job c = unless_stopped (with_class c.program) (λ it. unless_stopped (check_sources it.0 c.sources) (λ _. Ok (job.Solve it.0 c.sources c.unweighted)))
+
+abbrev pub classify_job : Result Program ProgramFault → Result Job Stop
+classify_job program = unless_stopped (with_class program) (λ it. Ok (job.Classify it.1))
+
+abbrev pub parts_job : PartsCommand → Result Job Stop
+parts_job c = unless_stopped (with_class c.program) (λ it. Ok (job.Parts it.0 c.workers c.unweighted))
 
 -- the source is read
 abbrev pub reads_source : Result Job Stop → Bool

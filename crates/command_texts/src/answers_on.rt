@@ -35,21 +35,21 @@ fn solved<R: Threads + Sync>(
     rt: &R,
     alloc: Global,
     way: Way,
-    graph: &ReadGraph,
+    graph: ReadGraph,
     program: &Program,
     starts: &[Value],
 ) -> Result<Vec<Value>, Memory>
     requires way { WayFits way program.now }
-    requires built { IsBuilt program.now graph.now }
-    requires rows { RowsFit graph.now.n graph.now.rows }
-    requires vertices { graph.now.n ≤ 2 ^ 22 }
-    requires reads { read_count graph.now.rows ≤ 2 ^ 25 }
-    requires starts { IsValueList graph.now.n starts.now }
-    ensures { IfOk result (λ values. IsAnswer program.now graph.now.rows starts.now values.items) }
+    requires built { IsBuilt program.now graph }
+    requires rows { RowsFit graph.n graph.rows }
+    requires vertices { graph.n ≤ 2 ^ 22 }
+    requires reads { read_count graph.rows ≤ 2 ^ 25 }
+    requires starts { IsValueList graph.n starts.now }
+    ensures { IfOk result (λ values. IsAnswer program.now graph.rows starts.now values.items) }
 {
     match way {
         Way::Rounds { workers } => solve_in_rounds(rt, alloc, graph, program, starts, workers),
-        Way::Plainly => solve(alloc, graph, program, starts),
+        Way::Plainly => solve(alloc, &graph, program, starts),
     }
 }
 
@@ -69,7 +69,7 @@ fn text_from<R: Threads + Sync>(
 {
     let graph = build(alloc, list, program.form, program.reads)?;
     let starts = starts(alloc, program, list.ids.as_slice(), sources)?;
-    let values = solved(rt, alloc, way, &graph, program, starts.as_slice())?;
+    let values = solved(rt, alloc, way, graph, program, starts.as_slice())?;
     let mut text = Vec::new(alloc);
     answer_text(&mut text, list.ids.as_slice(), values.as_slice())?;
     Ok(text)

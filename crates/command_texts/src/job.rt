@@ -1,11 +1,11 @@
-ghost use Rattle.std.specs.Prelude.{◌≡◌, IfErr, IfOk, IfSome, IsTrue, Ok};
+ghost use Rattle.std.specs.Prelude.{◌≡◌, IfErr, IfOk, IsTrue, Ok};
 ghost use Rattle.px_base.specs.declared.program.Class.TheVariants.{LocallyCorrecting};
 ghost use Rattle.px_base.specs.Classes.{class_of};
 ghost use Rattle.px_base.specs.RowTexts.{IsRowProgram};
 ghost use Rattle.px_base.specs.Starts.{needs_source};
 ghost use Rattle.command_words.specs.CommandFits.{CommandFits, ProgramFits};
 ghost use Rattle.command_texts.specs.Solutions.{is_decided};
-ghost use Rattle.command_texts.specs.Jobs.{JobFits, check_class, check_sources, job_of, plan_of, with_class};
+ghost use Rattle.command_texts.specs.Jobs.{JobFits, check_class, check_sources, classify_job, parts_job, run_job, solve_job, with_class};
 
 use class_checker::classify;
 use command_ends::Stop;
@@ -37,6 +37,15 @@ pub enum Job {
         workers: u32,
         unweighted: bool,
     },
+}
+
+/// What is left to do of a command that isn't stopped.
+#[derive(Debug, PartialEq, Eq, Drop)]
+pub enum Plan {
+    /// Write the text of the job.
+    Write(Job),
+    /// Serve a worker: frames come in, and frames go out.
+    Serve,
 }
 
 /// Whether a program with this start is given sources.
@@ -90,9 +99,10 @@ fn check_class(class: Class) -> Result<(), Stop>
     }
 }
 
-fn run_job(command: RunCommand) -> Result<Job, Stop>
+/// What `run` leaves to do.
+pub fn run_job(command: RunCommand) -> Result<Job, Stop>
     requires { CommandFits (Command.Run command) }
-    ensures job { result ≡ job_of (Command.Run command) }
+    ensures job { result ≡ run_job command }
     ensures fits { IfOk result (λ job. JobFits job) }
     ensures decided { IfErr result (λ why. IsTrue (is_decided why)) }
 {
@@ -106,9 +116,10 @@ fn run_job(command: RunCommand) -> Result<Job, Stop>
     })
 }
 
-fn solve_job(command: SolveCommand) -> Result<Job, Stop>
+/// What `solve` leaves to do.
+pub fn solve_job(command: SolveCommand) -> Result<Job, Stop>
     requires { CommandFits (Command.Solve command) }
-    ensures job { result ≡ job_of (Command.Solve command) }
+    ensures job { result ≡ solve_job command }
     ensures fits { IfOk result (λ job. JobFits job) }
     ensures decided { IfErr result (λ why. IsTrue (is_decided why)) }
 {
@@ -121,9 +132,10 @@ fn solve_job(command: SolveCommand) -> Result<Job, Stop>
     })
 }
 
-fn classify_job(program: Result<Program, ProgramFault>) -> Result<Job, Stop>
+/// What `classify` leaves to do.
+pub fn classify_job(program: Result<Program, ProgramFault>) -> Result<Job, Stop>
     requires { CommandFits (Command.Classify program) }
-    ensures job { result ≡ job_of (Command.Classify program) }
+    ensures job { result ≡ classify_job program }
     ensures fits { IfOk result (λ job. JobFits job) }
     ensures decided { IfErr result (λ why. IsTrue (is_decided why)) }
 {
@@ -131,9 +143,10 @@ fn classify_job(program: Result<Program, ProgramFault>) -> Result<Job, Stop>
     Ok(Job::Classify { class })
 }
 
-fn parts_job(command: PartsCommand) -> Result<Job, Stop>
+/// What `parts` leaves to do.
+pub fn parts_job(command: PartsCommand) -> Result<Job, Stop>
     requires { CommandFits (Command.Parts command) }
-    ensures job { result ≡ job_of (Command.Parts command) }
+    ensures job { result ≡ parts_job command }
     ensures fits { IfOk result (λ job. JobFits job) }
     ensures decided { IfErr result (λ why. IsTrue (is_decided why)) }
 {
@@ -143,22 +156,4 @@ fn parts_job(command: PartsCommand) -> Result<Job, Stop>
         workers: command.workers,
         unweighted: command.unweighted,
     })
-}
-
-/// What the command leaves to do, or why it stops before that: there is no command, its program is none or has no class,
-/// or its sources don't go with the program.
-#[tactic(auto, unfolding(crate::specs::Jobs::plan_of))]
-pub fn plan(command: Option<Command>) -> Result<Job, Stop>
-    requires { IfSome command (λ command. CommandFits command) }
-    ensures plan { result ≡ plan_of command }
-    ensures fits { IfOk result (λ job. JobFits job) }
-    ensures decided { IfErr result (λ why. IsTrue (is_decided why)) }
-{
-    match command {
-        None => Err(Stop::BadWords),
-        Some(Command::Run(command)) => run_job(command),
-        Some(Command::Solve(command)) => solve_job(command),
-        Some(Command::Classify(program)) => classify_job(program),
-        Some(Command::Parts(command)) => parts_job(command),
-    }
 }

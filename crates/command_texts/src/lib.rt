@@ -7,9 +7,11 @@ mod class_texts;
 mod job;
 mod parts_on;
 mod parts_texts;
+mod planning;
 mod solution;
 mod sources;
 
 pub use answer_texts::answer_text;
-pub use job::{Job, plan};
+pub use job::{Job, Plan};
+pub use planning::plan;
 pub use solution::job_text;

@@ -23,5 +23,5 @@ pub fn parts_on(
 {
     let graph = build(alloc, list, program.form, program.reads)?;
     let starts = starts(alloc, program, list.ids.as_slice(), &[])?;
-    parts_text(alloc, &graph, starts.as_slice(), workers)
+    parts_text(alloc, graph, starts.as_slice(), workers)
 }

@@ -54,16 +54,16 @@ fn write_parts(out: &mut Vec<u8>, parts: &[Part]) -> Result<(), Memory>
 #[tactic(auto, using(crate::proofs::PartLines::all_lines, crate::proofs::PartLines::few_reads))]
 pub fn parts_text(
     alloc: Global,
-    graph: &ReadGraph,
+    graph: ReadGraph,
     starts: &[Value],
     workers: u32,
 ) -> Result<Vec<u8>, Memory>
-    requires rows { RowsFit graph.now.n graph.now.rows }
-    requires vertices { graph.now.n ≤ 2 ^ 22 }
-    requires reads { read_count graph.now.rows ≤ 2 ^ 25 }
-    requires starts { IsValueList graph.now.n starts.now }
+    requires rows { RowsFit graph.n graph.rows }
+    requires vertices { graph.n ≤ 2 ^ 22 }
+    requires reads { read_count graph.rows ≤ 2 ^ 25 }
+    requires starts { IsValueList graph.n starts.now }
     requires workers { (1 ≤ workers) × (workers ≤ 64) }
-    ensures { IfOk result (λ text. text.items ≡ parts_text graph.now.rows workers) }
+    ensures { IfOk result (λ text. text.items ≡ parts_text graph.rows workers) }
 {
     let cuts = cut(alloc, graph.n, workers)?;
     let (parts, _) = parts_and_routes(alloc, graph, starts, &cuts)?;

@@ -5,7 +5,7 @@ use Rattle.px_base.specs.declared.row_fault.RowFault.TheVariants.{Missing}
 use Rattle.px_base.specs.Programs.{bfs}
 use Rattle.px_base.specs.ProgramNames.{sssp, components, kcore}
 use Rattle.command_words.specs.declared.command.ProgramFault.TheVariants.{Unknown, BadRow}
-use Rattle.command_words.specs.declared.command.Command.TheVariants.{Run, Solve, Classify, Parts}
+use Rattle.command_words.specs.declared.command.Command.TheVariants.{Run, Solve, Classify, Parts, Worker}
 use Rattle.command_words.specs.CommandWords.{command_of, program_of}
 
 -- ---- words of the grammar
@@ -53,6 +53,10 @@ parts_of = refl
 core : command_of (codes "parts" ∷ codes "kcore:3" ∷ []) ≡ Some (Parts (record { program = Ok (kcore 3); workers = 2; unweighted = false }))
 unfolding command_of program_of
 core = refl
+
+a_worker : command_of (codes "worker" ∷ []) ≡ Some Worker
+unfolding command_of
+a_worker = refl
 
 -- ---- other words
 
@@ -171,3 +175,15 @@ negative_source = refl
 signed_source : command_of (codes "run" ∷ codes "bfs" ∷ codes "+1" ∷ []) ≡ None
 unfolding command_of
 signed_source = refl
+
+worker_with_word : command_of (codes "worker" ∷ codes "x" ∷ []) ≡ None
+unfolding command_of
+worker_with_word = refl
+
+worker_with_option : command_of (codes "worker" ∷ codes "--workers" ∷ codes "2" ∷ []) ≡ None
+unfolding command_of
+worker_with_option = refl
+
+worker_with_flag : command_of (codes "worker" ∷ codes "--unweighted" ∷ []) ≡ None
+unfolding command_of
+worker_with_flag = refl

@@ -3,7 +3,7 @@ use Rattle.std.specs.Prelude.{ℕ, ◌-◌, ◌^◌, nat_lt, length, List, [], �
 use Rattle.px_base.specs.Text.{number_read}
 use Rattle.command_words.specs.declared.numbers.NumberRange.{NumberRange}
 use Rattle.command_words.specs.declared.table.CommandName.{CommandName}
-use Rattle.command_words.specs.declared.table.CommandName.TheVariants.{Run, Solve, Classify, Parts}
+use Rattle.command_words.specs.declared.table.CommandName.TheVariants.{Run, Solve, Classify, Parts, Worker}
 use Rattle.command_words.specs.declared.table.OptionName.{OptionName}
 use Rattle.command_words.specs.declared.table.OptionName.TheVariants.{Workers}
 use Rattle.command_words.specs.declared.table.FlagName.{FlagName}
@@ -50,7 +50,8 @@ line_of Run = record { name = codes "run"; positionals = Program ∷ []; repeate
 line_of Solve = record { name = codes "solve"; positionals = Program ∷ []; repeated = Some Source; options = []; flags = Unweighted ∷ [] }
 line_of Classify = record { name = codes "classify"; positionals = Program ∷ []; repeated = None; options = []; flags = [] }
 line_of Parts = record { name = codes "parts"; positionals = Program ∷ []; repeated = None; options = Workers ∷ []; flags = Unweighted ∷ [] }
+line_of Worker = record { name = codes "worker"; positionals = []; repeated = None; options = []; flags = [] }
 
 -- all commands
 abbrev pub commands : List CommandName
-commands = Run ∷ Solve ∷ Classify ∷ Parts ∷ []
+commands = Run ∷ Solve ∷ Classify ∷ Parts ∷ Worker ∷ []

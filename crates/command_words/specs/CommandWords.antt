@@ -9,7 +9,7 @@ use Rattle.px_base.specs.ProgramNames.{builtin_of}
 use Rattle.command_words.specs.declared.command.ProgramFault.{ProgramFault}
 use Rattle.command_words.specs.declared.command.ProgramFault.TheVariants.{Unknown, BadRow}
 use Rattle.command_words.specs.declared.command.Command.{Command}
-use Rattle.command_words.specs.declared.command.Command.TheVariants.{Run, Solve, Classify, Parts}
+use Rattle.command_words.specs.declared.command.Command.TheVariants.{Run, Solve, Classify, Parts, Worker}
 use Rattle.command_words.specs.declared.table.CommandName.{CommandName}
 use Rattle.command_words.specs.declared.table.CommandName.TheVariants as name
 use Rattle.command_words.specs.declared.table.OptionName.{OptionName}
@@ -149,6 +149,7 @@ command_said name.Run items = Run (record { program = program_said items; source
 command_said name.Solve items = Solve (record { program = program_said items; sources = sources_said items; unweighted = is_given Unweighted items })
 command_said name.Classify items = Classify (program_said items)
 command_said name.Parts items = Parts (record { program = program_said items; workers = workers_said items; unweighted = is_given Unweighted items })
+command_said name.Worker items = Worker
 
 -- ---- a command line
 

@@ -38,4 +38,6 @@ pub enum Command {
     Solve(SolveCommand),
     Classify(Result<Program, ProgramFault>),
     Parts(PartsCommand),
+    /// `worker`.
+    Worker,
 }

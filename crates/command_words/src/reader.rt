@@ -82,6 +82,7 @@ fn command_said(
             workers,
             unweighted,
         })),
+        CommandName::Worker => Ok(Command::Worker),
     }
 }
 

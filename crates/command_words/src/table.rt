@@ -13,6 +13,7 @@ pub enum CommandName {
     Solve,
     Classify,
     Parts,
+    Worker,
 }
 
 /// An option has a number.
@@ -45,6 +46,8 @@ pub fn command_named(word: &str) -> Option<CommandName>
         Some(CommandName::Classify)
     } else if word == "parts" {
         Some(CommandName::Parts)
+    } else if word == "worker" {
+        Some(CommandName::Worker)
     } else {
         None
     }
@@ -58,6 +61,7 @@ fn has_option(command: CommandName, option: OptionName) -> bool
         CommandName::Solve => false,
         CommandName::Classify => false,
         CommandName::Parts => matches!(option, OptionName::Workers),
+        CommandName::Worker => false,
     }
 }
 
@@ -92,6 +96,7 @@ fn has_flag(command: CommandName, flag: FlagName) -> bool
         CommandName::Solve => matches!(flag, FlagName::Unweighted),
         CommandName::Classify => false,
         CommandName::Parts => matches!(flag, FlagName::Unweighted),
+        CommandName::Worker => false,
     }
 }
 
@@ -106,18 +111,32 @@ pub fn flag_named(command: CommandName, word: &str) -> Option<FlagName>
     }
 }
 
+/// What the command's first positional is, if it may have one.
+fn first_positional(command: CommandName) -> Option<Positional>
+    ensures { result ≡ positional_at (line_of command) 0 }
+{
+    match command {
+        CommandName::Run => Some(Positional::Program),
+        CommandName::Solve => Some(Positional::Program),
+        CommandName::Classify => Some(Positional::Program),
+        CommandName::Parts => Some(Positional::Program),
+        CommandName::Worker => None,
+    }
+}
+
 /// What the command's positional at this place is, counted from 0, if it may have one there.
 pub fn positional_at(command: CommandName, place: usize) -> Option<Positional>
     ensures { result ≡ positional_at (line_of command) place }
 {
     if place == 0 {
-        return Some(Positional::Program);
+        return first_positional(command);
     }
     match command {
         CommandName::Run => Some(Positional::Source),
         CommandName::Solve => Some(Positional::Source),
         CommandName::Classify => None,
         CommandName::Parts => None,
+        CommandName::Worker => None,
     }
 }
 
@@ -130,5 +149,6 @@ pub fn least_positionals(command: CommandName) -> usize
         CommandName::Solve => 1,
         CommandName::Classify => 1,
         CommandName::Parts => 1,
+        CommandName::Worker => 0,
     }
 }

@@ -2,6 +2,7 @@
 #![tactic(auto)]
 
 mod run;
+mod serving;
 
 pub use command_texts::answer_text;
 pub use run::phoenix;

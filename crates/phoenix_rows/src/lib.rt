@@ -2,6 +2,9 @@
 #![tactic(auto)]
 
 #[cfg(test)]
+mod worker_rows;
+
+#[cfg(test)]
 mod tests {
     use phoenix_cli::phoenix;
     use px_base::{Memory, Words, write_number};

@@ -24,6 +24,12 @@ returns-in-Input-clause-line g c = rw c.in-Input.is c.add_input.ensures.line
 pub returns-in-UnknownSource-clause-line : goal.returns-in-UnknownSource-clause-line
 returns-in-UnknownSource-clause-line g c = rw c.in-UnknownSource.is c.add_numbered.ensures.line
 
+pub returns-in-Frame-clause-line : goal.returns-in-Frame-clause-line
+returns-in-Frame-clause-line g c = rw c.in-Frame.is c.add_frame.ensures.line
+
+pub returns-in-TooManyFrameBytes-clause-line : goal.returns-in-TooManyFrameBytes-clause-line
+returns-in-TooManyFrameBytes-clause-line g c = rw c.in-TooManyFrameBytes.is c.add_line-in-TooManyFrameBytes.ensures.line
+
 pub returns-in-WriteFault-clause-line : goal.returns-in-WriteFault-clause-line
 returns-in-WriteFault-clause-line g c = rw c.in-WriteFault.is c.add_line-in-WriteFault.ensures.line
 

@@ -1,7 +1,7 @@
 use Rattle.std.proofs.Common.{◌∙◌}
 use Rattle.command_ends.specs.declared.stop.Stop.TheVariants as stop
 use Rattle.command_words.specs.CommandWords.{command_of}
-use Rattle.command_texts.specs.Jobs.{plan_of}
+use Rattle.command_texts.specs.Plans.{plan_of}
 use Rattle.phoenix_cli.proofs.Stopped.{memory_stops, no_command, stops_as}
 use Rattle.phoenix_cli.proofs.run.perform.Goals as goal
 

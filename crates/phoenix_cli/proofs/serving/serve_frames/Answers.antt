@@ -1,0 +1,17 @@
+use Rattle.phoenix_cli.proofs.Served.{read_failed, write_failed, no_read_failed, no_write_failed}
+use Rattle.phoenix_cli.proofs.serving.serve_frames.Goals as goal
+
+pub returns-clause-run : goal.returns-clause-run
+returns-clause-run g c = record { why = c.serve.result; is = c.outcome_of.ensures; served = c.serve.ensures.served }
+
+pub returns-clause-read_fault : goal.returns-clause-read_fault
+returns-clause-read_fault g c = λ e. c.serve.ensures.read_fault (read_failed c.serve.result c.outcome_of.result c.outcome_of.ensures e)
+
+pub returns-clause-write_fault : goal.returns-clause-write_fault
+returns-clause-write_fault g c = λ e. c.serve.ensures.write_fault (write_failed c.serve.result c.outcome_of.result c.outcome_of.ensures e)
+
+pub returns-clause-no_fault : goal.returns-clause-no_fault
+returns-clause-no_fault g c = λ other. c.serve.ensures.no_fault (no_read_failed c.serve.result c.outcome_of.result c.outcome_of.ensures other)
+
+pub returns-clause-no_write_fault : goal.returns-clause-no_write_fault
+returns-clause-no_write_fault g c = λ other. c.serve.ensures.no_write_fault (no_write_failed c.serve.result c.outcome_of.result c.outcome_of.ensures other)

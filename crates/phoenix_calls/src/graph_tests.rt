@@ -2,7 +2,7 @@ ghost use Rattle.px_base.specs.Parts.{IsWorkerCuts};
 
 use crate::graphs::{FOUR, graph_of};
 use graph_forms::before;
-use partitioner::{Cuts, cut, owner, parts_and_routes};
+use partitioner::{Cuts, RouteTable, cut, owner, parts_and_routes, routes};
 use px_base::{Form, Items, Memory, Part, Pos, Rank, ReadGraph, Reads, part_fits};
 use std::alloc::Global;
 use std::process::Abort;
@@ -64,6 +64,16 @@ fn assert_misfits<R: Abort>(rt: &R, alloc: Global, mut part: Part) {
     assert!(rt; !part_fits(&part));
 }
 
+/// Asserts the routes of the four vertices: worker 1 mirrors the first two, worker 0 the third.
+fn assert_routes<R: Abort>(rt: &R, table: &RouteTable) {
+    let to = table.to.as_slice();
+    assert_eq!(rt; to.len(), 4);
+    assert_eq!(rt; to[0].as_slice(), [1].as_slice());
+    assert_eq!(rt; to[1].as_slice(), [1].as_slice());
+    assert_eq!(rt; to[2].as_slice(), [0].as_slice());
+    assert!(rt; to[3].as_slice().is_empty());
+}
+
 #[test]
 fn parts(rt: HostRuntime) -> Result<(), Fail> {
     let graph = graph_of(rt.alloc(), FOUR, Form::Given, Reads::All)?;
@@ -72,13 +82,9 @@ fn parts(rt: HostRuntime) -> Result<(), Fail> {
     assert_eq!(&rt; cuts.ends.as_slice(), [0, 2, 4].as_slice());
     let owners = owners(rt.alloc(), &cuts, graph.n)?;
     assert_eq!(&rt; owners.as_slice(), [0, 0, 1, 1].as_slice());
-    let (parts, routes) = parts_and_routes(rt.alloc(), &graph, &[0; 4], &cuts)?;
-    let routes = routes.to.as_slice();
-    assert_eq!(&rt; routes.len(), 4);
-    assert_eq!(&rt; routes[0].as_slice(), [1].as_slice());
-    assert_eq!(&rt; routes[1].as_slice(), [1].as_slice());
-    assert_eq!(&rt; routes[2].as_slice(), [0].as_slice());
-    assert!(&rt; routes[3].as_slice().is_empty());
+    assert_routes(&rt, &routes(rt.alloc(), &graph, &cuts)?);
+    let (parts, table) = parts_and_routes(rt.alloc(), graph, &[0; 4], &cuts)?;
+    assert_routes(&rt, &table);
     let mut parts = parts.into_vec();
     let second = parts.pop().ok_or("no second part")?;
     assert_part(&rt, &second, &[0, 1], &[2]);

@@ -1,5 +1,7 @@
-ghost use Rattle.std.specs.Prelude.{◌≤◌, ◌^◌, IfOk};
-ghost use Rattle.px_base.specs.Graphs.{RowsFit};
+ghost use Rattle.std.specs.Prelude.{◌≡◌, ◌≤◌, ◌^◌, IfOk};
+ghost use Rattle.px_base.specs.Core.{core_form};
+ghost use Rattle.px_base.specs.Graphs.{HasWeights, RowsFit, read_count};
+ghost use Rattle.px_base.specs.Parts.{PartFits};
 ghost use Rattle.px_base.specs.Lines.{EdgeListFits};
 ghost use Rattle.px_base.specs.RowTexts.{IsRowProgram};
 
@@ -7,7 +9,7 @@ use edge_reader::read_edges;
 use graph_forms::build;
 use partitioner::{cut, part};
 use program_table::{builtin, core_starts, starts};
-use px_base::{EdgeList, Form, Program, ReadGraph, Reads};
+use px_base::{CoreProgram, EdgeList, Form, Part, Program, ReadGraph, Reads};
 use px_io::SureSource;
 use std::alloc::Global;
 use std::test::Fail;
@@ -49,14 +51,26 @@ pub fn program_of(name: &str) -> Result<Program, Fail>
     }
 }
 
-/// The new world of part `i` of the built-in program's graph. No vertex is a source.
-pub fn world_of(
+/// A part of a program's graph, and the program in core values.
+#[derive(Drop)]
+pub struct Placed {
+    pub part: Part,
+    pub core: CoreProgram,
+}
+
+/// Part `i` of the built-in program's graph. No vertex is a source.
+pub fn placed_part(
     alloc: Global,
     name: &str,
     lines: &str,
     workers: u32,
     i: u32,
-) -> Result<World, Fail> {
+) -> Result<Placed, Fail>
+    ensures fits { IfOk result (λ placed. PartFits placed.part) }
+    ensures weights { IfOk result (λ placed. HasWeights placed.part.rows) }
+    ensures reads { IfOk result (λ placed. read_count placed.part.rows ≤ 2 ^ 25) }
+    ensures core { IfOk result (λ placed. placed.core ≡ core_form placed.core.program) }
+{
     if workers < 1 || workers > 64 {
         return Err(Fail::new("no such number of workers"));
     }
@@ -71,6 +85,28 @@ pub fn world_of(
         return Err(Fail::new("no such part"));
     }
     let part = part(alloc, &graph, starts.as_slice(), &cuts, i)?;
+    Ok(Placed { part, core })
+}
+
+/// The new world of the part.
+pub fn world_on(alloc: Global, placed: Placed) -> Result<World, Fail>
+    requires fits { PartFits placed.part }
+    requires weights { HasWeights placed.part.rows }
+    requires reads { read_count placed.part.rows ≤ 2 ^ 25 }
+    requires core { placed.core ≡ core_form placed.core.program }
+{
+    let Placed { part, core } = placed;
     let world = World::new(alloc, part, core, 1)?;
     Ok(world)
+}
+
+/// The new world of part `i` of the built-in program's graph. No vertex is a source.
+pub fn world_of(
+    alloc: Global,
+    name: &str,
+    lines: &str,
+    workers: u32,
+    i: u32,
+) -> Result<World, Fail> {
+    world_on(alloc, placed_part(alloc, name, lines, workers, i)?)
 }

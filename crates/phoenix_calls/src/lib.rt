@@ -8,4 +8,6 @@ mod graphs;
 #[cfg(test)]
 mod rule_tests;
 #[cfg(test)]
+mod session_tests;
+#[cfg(test)]
 mod world_tests;

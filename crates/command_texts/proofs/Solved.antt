@@ -1,11 +1,11 @@
 -- What a job comes to once its input is read.
 use Rattle.std.proofs.Common.{◌≡◌, ℕ, true, false, List, [], refl, sym, ap, subst}
 use Rattle.std.specs.Prelude.{IfSome, Option, None, Some, Result, Ok, Err, IsTrue}
-use Rattle.std.specs.Io.KnownBytes.{Consumes}
 use Rattle.px_base.specs.declared.program.Class.{Class}
 use Rattle.px_base.specs.declared.graph.EdgeList.{EdgeList}
 use Rattle.px_base.specs.Lines.{IdEdge, IsEdgeListOf}
 use Rattle.px_base.specs.Inputs.{InputFault, input_of, input_limits}
+use Rattle.px_io.proofs.Known.{consumes_none}
 use Rattle.edge_reader.specs.declared.fault.EdgeFault.{EdgeFault}
 use Rattle.edge_reader.specs.declared.fault.EdgeFault.TheVariants as fault
 use Rattle.edge_reader.specs.Readings.{Says, IsReadingOf}
@@ -18,7 +18,7 @@ use Rattle.command_texts.specs.Endings.{stopped, classified, after_edges, after_
 use Rattle.command_texts.specs.Solutions.{is_decided_fault, EndsAs, IsOfEdges, IsSolution}
 
 -- a job that reads its input ends as the input says
-by_input : (this : Job) → reads_source (Ok this) ≡ true → (bytes : List ℕ) → ending_of (Ok this) bytes ≡ after_input this (input_of input_limits (reads_weights (Ok this)) bytes)
+pub by_input : (this : Job) → reads_source (Ok this) ≡ true → (bytes : List ℕ) → ending_of (Ok this) bytes ≡ after_input this (input_of input_limits (reads_weights (Ok this)) bytes)
 unfolding ending_of
 by_input (job.Run program sources workers) reads bytes = refl
 by_input (job.Solve program sources unweighted) reads bytes = refl
@@ -65,11 +65,6 @@ list_ends this left rest list result reads r ends own =
       met = λ h. absurd (no_read_fault result own h);
     }
 
--- nothing is taken
-pub takes_none : (left : Option (List ℕ)) → Consumes left left []
-takes_none None = tt
-takes_none (Some bytes) = refl
-
 abbrev pub bytes_of : Option (List ℕ) → List ℕ
 bytes_of None = []
 bytes_of (Some bytes) = bytes
@@ -87,6 +82,6 @@ class_ends class left result ends own = record {
   ends = ends;
   ended = λ h k. absurd (let no : false ≡ true = k in cc);
   taken = [];
-  lost = takes_none left;
+  lost = consumes_none left;
   met = λ h. absurd (no_read_fault result own h);
 }

@@ -2,6 +2,7 @@
 use Rattle.std.proofs.Common.{◌≡◌, ℕ, suc, zero, ◌+◌, ◌<◌, ◌≤◌, Bool, true, false, ◌&&◌, List, [], ◌∷◌, length, drop, refl, sym, ap, ◌∙◌, arith}
 use Rattle.std.specs.Prelude.{nat_lt, bytes_eq, slice_get, Option, Some, None, is_some, if◌then◌else◌}
 use Rattle.std.specs.List.{list_any}
+use Rattle.std.proofs.Math.Bool.{and-false}
 use Rattle.std.proofs.lemmas.Bool.{ltb-true, ltb-false, lt-ltb, le-ltb}
 use Rattle.std.proofs.Math.Seq.{drop-cons}
 use Rattle.std.proofs.lemmas.List.{drop_all}
@@ -82,10 +83,6 @@ abbrev all_then : CommandLine → List Item → Option Found → Option Found
 all_then line items None = None
 all_then line items (Some next) = accept_all line next items
 
-and_false : (b : Bool) → (b && false) ≡ false
-and_false true = refl
-and_false false = refl
-
 -- an option or a flag in front of the other items
 named_item : (line : CommandLine) (before : List (List ℕ)) (found : Found) (item : Item) (name : List ℕ) (items : List Item) (seen : Bool) →
     names_of (item ∷ items) ≡ name ∷ names_of items → positionals_of (item ∷ items) ≡ positionals_of items →
@@ -158,7 +155,7 @@ positional_item line before found word items others t e = ap (finish line) (unfo
     by_test false e =
         ap (λ b. finish line (all_then line items (if b then Some next else None))) e
         ∙ sym (by_places ∙ ap (λ b. right (b && places) (after found (positional word ∷ items))) e
-        ∙ ap (λ b. if b then Some (after found (positional word ∷ items)) else None) (and_false (none_again before (names_of items))))
+        ∙ ap (λ b. if b then Some (after found (positional word ∷ items)) else None) (and-false (none_again before (names_of items))))
 
 pub all_items : (line : CommandLine) (before : List (List ℕ)) (found : Found) (items : List Item) → AreNamesOf before found →
     finish line (accept_all line found items) ≡ found_after line before found items

@@ -2,6 +2,7 @@
 use Rattle.std.proofs.Common.{◌≡◌, ℕ, ◌+◌, Bool, true, false, List, [], ◌∷◌, length, refl, sym, ap, ◌∙◌, zero-add, arith}
 use Rattle.std.specs.Prelude.{◌||◌, bytes_eq, Option, Some, None, is_some, if◌then◌else◌}
 use Rattle.std.specs.List.{list_any}
+use Rattle.std.proofs.Math.Bool.{or-false}
 use Rattle.std.proofs.lemmas.Slice.Eq.{bytes_eq-Decides}
 use Rattle.command_words.specs.declared.table.OptionName.{OptionName}
 use Rattle.command_words.specs.declared.table.OptionName.TheVariants.{Workers}
@@ -209,14 +210,10 @@ first_none : (o : Option ℕ) → first_number o None ≡ o
 first_none None = refl
 first_none (Some n) = refl
 
-or_false : (b : Bool) → (b || false) ≡ b
-or_false true = refl
-or_false false = refl
-
 pub nothing_more : (found : Found) → after found [] ≡ found
 nothing_more found = same_found (after found []) found
     (λ o. number_after found [] o ∙ first_none (number_found found o))
-    (λ f. flag_after found [] f ∙ or_false (flag_found found f))
+    (λ f. flag_after found [] f ∙ or-false (flag_found found f))
     (omega arith)
 
 pub a_word_more : (found : Found) (word : List ℕ) (items : List Item) → after (record found { positionals = found.positionals + 1 }) items ≡ after found (positional word ∷ items)

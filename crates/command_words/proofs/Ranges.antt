@@ -4,9 +4,9 @@ use Rattle.std.specs.Prelude.{◌==◌, nat_lt, slice_index, drop, unwrap_or, �
 use Rattle.std.specs.List.{before_first, after_first}
 use Rattle.std.proofs.lemmas.Bool.Decides.{nat_tests}
 use Rattle.px_base.specs.declared.number.NumberFault.{NumberFault}
-use Rattle.px_base.specs.declared.number.NumberFault.TheVariants.{Empty, NotDigit, TooGreat}
 use Rattle.px_base.specs.Values.{is_listed}
-use Rattle.px_base.specs.Text.{number_read, digits_end, number_of}
+use Rattle.px_base.specs.Text.{number_read}
+use Rattle.px_base.proofs.Numbers.{read_in_range}
 use Rattle.command_words.specs.declared.numbers.NumberRange.{NumberRange}
 use Rattle.command_words.specs.declared.table.OptionName.{OptionName}
 use Rattle.command_words.specs.declared.table.OptionName.TheVariants.{Workers}
@@ -22,16 +22,6 @@ abbrev IsInRange : NumberRange → ℕ → Type 0
 IsInRange range n = (range.least ≤ n) × (n ≤ range.greatest)
 
 -- ---- one number
-
-read_in_range : (text : List ℕ) (greatest n : ℕ) → number_read text greatest ≡ Ok n → n ≤ greatest
-read_in_range text greatest n is = by_tests (length text == 0) (nat_lt (digits_end text) (length text)) (nat_lt greatest (number_of text)) refl is
-  where
-    by_tests : (empty bad great : Bool) → nat_lt greatest (number_of text) ≡ great →
-        (cond empty (Err Empty) (cond bad (Err (NotDigit (digits_end text))) (cond great (Err TooGreat) (Ok (number_of text))))) ≡ Ok n → n ≤ greatest
-    by_tests true bad great test is = absurd (cc)
-    by_tests false true great test is = absurd (cc)
-    by_tests false false true test is = absurd (cc)
-    by_tests false false false test is = let same : number_of text ≡ n = cc in rw (← same) (grind (arith, nat_tests))
 
 number_in_range : (range : NumberRange) (word : List ℕ) (n : ℕ) → number_in range word ≡ Some n → IsInRange range n
 number_in_range range word n is = by_length (nat_lt 20 (length word)) is

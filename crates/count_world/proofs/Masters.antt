@@ -2,12 +2,10 @@
 use Rattle.std.proofs.Common.{◌≡◌, ℕ, zero, suc, ◌+◌, ◌<◌, ◌≤◌, ◌∙◌, Bool, true, false, List, length, get_or, map, refl, sym, arith}
 use Rattle.std.specs.Prelude.{◌==◌, filter}
 use Rattle.std.specs.List.{range_with_len}
-use Rattle.std.proofs.lemmas.Bool.Decides.{nat_tests}
 use Rattle.std.proofs.lemmas.List.{length-map, get_or-map}
 use Rattle.std.proofs.lemmas.Grind.{same_number_lists}
 use Rattle.std.proofs.lemmas.List.FromFn.{fill_by_all}
 use Rattle.px_base.specs.Values.{by_position, positions_below, is_in, one_if}
-use Rattle.px_base.specs.Parts.{is_within}
 use Rattle.px_base.proofs.Positions.{length_by_position, at_position}
 
 -- ---- lists by position
@@ -29,9 +27,6 @@ in_set n test k below = rw (at_position n (λ j. one_if (test j)) k 0 below) (fl
 -- two tests that agree on the first n
 abbrev pub AgreeBelow : ℕ → (ℕ → Bool) → (ℕ → Bool) → Type 0
 AgreeBelow n one other = (k : ℕ) → k < n → one k ≡ other k
-
-pub within_bounds : (low high u : ℕ) → is_within low high u ≡ true → (low ≤ u) × (u < high)
-within_bounds low high u is = (grind (arith, nat_tests), grind (arith, nat_tests))
 
 -- ---- the first n positions
 

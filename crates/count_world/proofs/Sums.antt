@@ -2,8 +2,6 @@
 use Rattle.std.proofs.Common.{◌≡◌, ℕ, zero, suc, ◌+◌, ◌-◌, ◌<◌, ◌≤◌, ◌≢◌, ◌∙◌, Bool, true, false, cond, List, [], ◌∷◌, ◌++◌, length, get_or, refl, sym, ap, arith, inl, inr, add-zero, zero-add, eq-eqb, length-append}
 use Rattle.std.specs.Prelude.{◌==◌, ◌&&◌, ◌||◌, not, nat_lt, All, filter, sum_by, if◌then◌else◌}
 use Rattle.std.specs.List.{range_with_len, list_any}
-use Rattle.std.specs.List.Sorted.{IsStrictlyIncreasing}
-use Rattle.std.proofs.lemmas.List.FromFn.{length-range_with_len, get_or-range_with_len}
 use Rattle.std.proofs.lemmas.Bool.Decides.{eqb_tells, nat_tests}
 use Rattle.std.proofs.lemmas.List.Elements.{filter-append}
 use Rattle.std.proofs.lemmas.List.Sums.{sum_by-append, sum_by-cons, get_or-le-sum_by}
@@ -12,8 +10,10 @@ use Rattle.px_base.specs.Values.{positions_below, is_listed, one_if}
 use Rattle.px_base.specs.Graphs.{reads_passing}
 use Rattle.px_base.specs.Parts.{is_within}
 use Rattle.px_base.proofs.Listed.{not_equal}
+use Rattle.px_base.proofs.Members.{range_suc}
+use Rattle.px_base.proofs.Ranges.{within_bounds}
 use Rattle.count_world.specs.Sets.{IsListOf}
-use Rattle.count_world.proofs.Masters.{within_bounds, filter_same}
+use Rattle.count_world.proofs.Masters.{filter_same}
 
 -- ---- sums
 
@@ -30,10 +30,6 @@ sum_zero [] = refl
 sum_zero (x ∷ xs) = omega (arith, sum_by-cons (λ y. 0) x xs, sum_zero xs)
 
 -- ---- one master more
-
-range_suc : (a n : ℕ) → range_with_len a (suc n) ≡ range_with_len a n ++ (a + n) ∷ []
-range_suc a zero = rw add-zero refl
-range_suc a (suc n) = let last : a + 1 + n ≡ a + suc n = omega arith in ap (λ rest. a ∷ rest) (range_suc (a + 1) n ∙ ap (λ j. range_with_len (a + 1) n ++ j ∷ []) last)
 
 pub filter_suc : (test : ℕ → Bool) (n : ℕ) → filter test (positions_below (suc n)) ≡ filter test (positions_below n) ++ (if test n then n ∷ [] else [])
 filter_suc test n =
@@ -320,8 +316,3 @@ in_order_same (x ∷ xs) (y ∷ ys) up down same =
     let rest : xs ≡ ys = in_order_same xs ys (falls_never_after x xs up) (falls_never_after y ys down)
     (λ f. omega (arith, same f, sum_by-cons f x xs, sum_by-cons f y ys, ap f first)) in
     cc
-
-pub range_rises : (a n : ℕ) → IsStrictlyIncreasing (range_with_len a n)
-range_rises a n k inside =
-    let few : k + 1 < n = omega (arith, length-range_with_len a n) in
-    omega (arith, get_or-range_with_len a n k 0 (omega arith), get_or-range_with_len a n (k + 1) 0 few)

@@ -13,11 +13,12 @@ use Rattle.px_base.specs.declared.wire.Update.{Update}
 use Rattle.px_base.specs.Values.{positions_below, is_listed, one_if}
 use Rattle.px_base.proofs.Positions.{at_position, length_by_position}
 use Rattle.px_base.proofs.Listed.{rising_apart}
+use Rattle.px_base.proofs.Members.{range_rises}
 use Rattle.count_world.specs.declared.tally.Tally.{Tally}
 use Rattle.count_world.specs.Tally.{IsTally, IsClear, RaisesTally, is_told}
 use Rattle.count_world.specs.Sets.{IsListOf, without}
 use Rattle.count_world.specs.Told.{is_place, told_updates}
-use Rattle.count_world.proofs.Sums.{one_more, room_for_one, none_list, listed_is, filter_suc, in_order_same, range_rises}
+use Rattle.count_world.proofs.Sums.{one_more, room_for_one, none_list, listed_is, filter_suc, in_order_same}
 use Rattle.count_world.proofs.Linked.{get_or-replicate_same}
 use Rattle.count_world.proofs.Telling.{told_one, told_none}
 

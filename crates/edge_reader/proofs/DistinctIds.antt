@@ -1,25 +1,16 @@
 -- How many different ids there are.
 use Rattle.std.proofs.Common.{◌≡◌, ℕ, suc, ◌+◌, ◌<◌, Bool, true, false, not, ◌||◌, cond, List, [], ◌∷◌, length, refl, sym, ap, ◌∙◌, arith, get_or}
-use Rattle.std.specs.Prelude.{◌==◌, ⊤, ◌↔◌, Contains, Any, filter}
+use Rattle.std.specs.Prelude.{◌==◌, ⊤, ◌↔◌, Contains, filter}
 use Rattle.std.specs.List.{AllPairs}
 use Rattle.std.specs.List.Sorted.{IsStrictlyIncreasing}
 use Rattle.std.proofs.lemmas.Bool.{eqb-true, eq-eqb}
 use Rattle.std.proofs.lemmas.Bool.Decides.{nat_tests}
 use Rattle.std.proofs.lemmas.List.Kept.{AllPairs-from_increasing}
-use Rattle.std.proofs.lemmas.List.Folds.{Any-from_list_any, list_any_at}
 use Rattle.px_base.specs.Values.{is_listed}
 use Rattle.px_base.specs.Inputs.{distinct_count}
+use Rattle.px_base.proofs.Members.{contains_listed, listed_contains}
 
 -- ---- standing in a list
-
-pub contains_listed : (items : List ℕ) (k : ℕ) → Contains items k → is_listed items k ≡ true
-contains_listed items k (i, below, is) = list_any_at (λ x. x == k) items i k below (rw is (eq-eqb k k refl))
-
-pub listed_contains : (items : List ℕ) (k : ℕ) → is_listed items k ≡ true → Contains items k
-listed_contains items k h =
-    let found : Any (λ x. (x == k) ≡ true) items = Any-from_list_any (λ x. x == k) items h in
-    let same : found.1 ≡ k = eqb-true found.1 k found.4 in
-    (found.0, found.2, rw same at found.3)
 
 same_by : (xs ys : List ℕ) (k : ℕ) → (Contains xs k ↔ Contains ys k) → (s t : Bool) → is_listed xs k ≡ s → is_listed ys k ≡ t → s ≡ t
 same_by xs ys k h true true e f = refl

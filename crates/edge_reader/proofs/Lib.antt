@@ -10,3 +10,4 @@ pub mod PlacedEnds
 pub mod Numbering
 pub mod Finished
 pub mod Marking
+pub mod InputFits

@@ -3,6 +3,7 @@
 
 mod fault;
 mod finish;
+mod laws;
 mod lines;
 mod marks;
 mod places;
@@ -10,4 +11,5 @@ mod reader;
 mod scan;
 
 pub use fault::EdgeFault;
+pub use laws::inputs_fit;
 pub use reader::read_edges;

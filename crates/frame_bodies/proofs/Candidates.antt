@@ -1,17 +1,16 @@
 -- Where no frame has a kind and a body.
-use Rattle.std.proofs.Common.{◌≡◌, ℕ, zero, suc, ◌+◌, ◌*◌, ◌/◌, ◌%◌, ◌≤◌, Bool, true, false, List, ◌∷◌, ◌++◌, length, drop, get_or, refl, sym, ap, ◌∙◌, subst, arith}
+use Rattle.std.proofs.Common.{◌≡◌, ℕ, zero, suc, ◌+◌, ◌*◌, ◌/◌, ◌%◌, List, ◌∷◌, ◌++◌, length, drop, get_or, refl, sym, ap, ◌∙◌, subst, arith}
 use Rattle.std.specs.Prelude.{flat_map, None, Some}
 use Rattle.px_base.specs.declared.wire.Update.{Update}
-use Rattle.px_base.specs.declared.frame.Setup.{Setup}
 use Rattle.px_base.specs.declared.frame.Triple.{Triple}
 use Rattle.px_base.specs.declared.frame.Frame.{Frame}
-use Rattle.px_base.specs.Frames.{four_bytes, eight_bytes, pair_bytes, triple_bytes, setup_bytes, changed_code, kind_of, body_of}
+use Rattle.px_base.specs.Frames.{four_bytes, eight_bytes, pair_bytes, triple_bytes, changed_code, kind_of, body_of}
 use Rattle.px_base.specs.FrameFits.{FrameFits}
-use Rattle.frame_bodies.specs.Widths.{HasRoom, SetupHasRoom}
+use Rattle.frame_bodies.specs.Widths.{HasRoom}
 use Rattle.frame_bodies.specs.Bodies.{IsCandidate, IsBody}
 use Rattle.frame_bodies.proofs.Lengths.{length_values, length_pairs, length_vertices, length_triples}
 use Rattle.frame_bodies.proofs.Rooms.{room}
-use Rattle.frame_bodies.proofs.Unspelled.{four_at, eight_at, values_from, pairs_from, vertices_from, triples_from, setup_from, changed_from, frame_from, back}
+use Rattle.frame_bodies.proofs.Unspelled.{four_at, eight_at, values_from, pairs_from, vertices_from, triples_from, changed_from, frame_from, back}
 
 -- one kind and one body are one frame
 pub same_frame : (f g : Frame) → FrameFits f → FrameFits g → kind_of f ≡ kind_of g → body_of f ≡ body_of g → f ≡ g
@@ -33,18 +32,7 @@ length_pairs_from : (n : ℕ) (b : List ℕ) → length (pairs_from n b) ≡ n
 length_pairs_from zero b = refl
 length_pairs_from (suc n) b = ap suc (length_pairs_from n (drop 12 b))
 
-length_vertices_from : (n : ℕ) (b : List ℕ) → length (vertices_from n b) ≡ n
-length_vertices_from zero b = refl
-length_vertices_from (suc n) b = ap suc (length_vertices_from n (drop 4 b))
-
-length_triples_from : (n : ℕ) (b : List ℕ) → length (triples_from n b) ≡ n
-length_triples_from zero b = refl
-length_triples_from (suc n) b = ap suc (length_triples_from n (drop 12 b))
-
 -- ---- loads
-
-pub no_setup : (body : List ℕ) → ((s : Setup) → SetupHasRoom s → setup_bytes s ≡ body → ⊥) → IsCandidate 1 body None
-no_setup body isnt = none_by 1 body (λ h e. isnt (setup_from body) h e)
 
 pub no_starts : (body : List ℕ) → (length body % 8 ≡ 0 → ⊥) → IsCandidate 2 body None
 no_starts body odd = none_by 2 body (λ h e.
@@ -70,9 +58,6 @@ no_reads body odd = none_by 5 body (λ h e.
     let long : length (flat_map triple_bytes ts) ≡ length body = ap length e in
     odd (omega (arith, length_triples ts, long)))
 
-pub no_ready : (body : List ℕ) → (length body ≡ 0 → ⊥) → IsCandidate 6 body None
-no_ready body more = none_by 6 body (λ h e. more (sym (ap length e)))
-
 -- ---- orders and answers
 
 pub no_step : (body : List ℕ) → (length body ≡ 16 + 12 * four_at 12 body → ⊥) → IsCandidate 7 body None
@@ -82,24 +67,12 @@ no_step body other = none_by 7 body (λ h e.
     let long : length (four_bytes (four_at 0 body) ++ eight_bytes (eight_at 4 body) ++ four_bytes (length us) ++ flat_map pair_bytes us) ≡ length body = ap length e in
     other (omega (arith, length_pairs us, long, count)))
 
-pub no_report : (body : List ℕ) → (length body ≡ 4 → ⊥) → IsCandidate 8 body None
-no_report body other = none_by 8 body (λ h e. other (sym (ap length e)))
-
 pub no_stepped : (body : List ℕ) → (length body ≡ 17 + 12 * four_at 13 body → ⊥) → IsCandidate 9 body None
 no_stepped body other = none_by 9 body (λ h e.
     let us : List Update = pairs_from (four_at 13 body) (drop 17 body) in
     let count : length us ≡ four_at 13 body = length_pairs_from (four_at 13 body) (drop 17 body) in
     let long : length (four_bytes (four_at 0 body) ++ eight_bytes (eight_at 4 body) ++ changed_code (changed_from (get_or body 12 0)) ∷ four_bytes (length us) ++ flat_map pair_bytes us) ≡ length body = ap length e in
     other (omega (arith, length_pairs us, long, count)))
-
-changed_small : (c : Bool) → changed_code c ≤ 1
-changed_small false = omega arith
-changed_small true = omega arith
-
-pub no_stepped_code : (body : List ℕ) → 2 ≤ get_or body 12 0 → IsCandidate 9 body None
-no_stepped_code body great = none_by 9 body (λ h e.
-    let code : changed_code (changed_from (get_or body 12 0)) ≡ get_or body 12 0 = ap (λ (l : List ℕ). get_or l 12 0) e in
-    omega (arith, changed_small (changed_from (get_or body 12 0)), code))
 
 pub no_reported : (body : List ℕ) → (length body ≡ 8 + 8 * four_at 4 body → ⊥) → IsCandidate 10 body None
 no_reported body other = none_by 10 body (λ h e.
@@ -118,6 +91,3 @@ none_fits kind body f h unfit g fits k b =
     let there : g ≡ frame_from kind body =
     sym (back g (room g fits)) ∙ ap (λ (n : ℕ). frame_from n (body_of g)) k ∙ ap (λ (l : List ℕ). frame_from kind l) b in
     unfit (subst FrameFits (there ∙ sym here) fits)
-
-pub none_stands : (kind : ℕ) (body : List ℕ) → IsCandidate kind body None → IsBody kind body None
-none_stands kind body isnt g fits k b = isnt g (room g fits) k b

@@ -5,6 +5,7 @@ use Rattle.std.specs.List.{list_any, dedup}
 use Rattle.std.specs.List.Retain.{IsFiltered, DiffersFromLast}
 use Rattle.std.specs.List.Sorted.{IsSorted}
 use Rattle.std.specs.Ordering.{nat_cmp}
+use Rattle.std.proofs.Math.Bool.{or-true, or-false, and-false}
 use Rattle.std.proofs.lemmas.Bool.{eq-eqb, eqb-true}
 use Rattle.std.proofs.lemmas.Bool.Decides.{eqb_tells, nat_tests}
 use Rattle.std.proofs.lemmas.List.{append-nil}
@@ -19,18 +20,6 @@ use Rattle.px_base.specs.Graphs.{is_neighbour, joins}
 use Rattle.graph_forms.specs.Neighbours.{HasMembers, IsSetOf, other_end}
 
 -- ---- tests
-
-or_true : (b : Bool) → (b || true) ≡ true
-or_true true = refl
-or_true false = refl
-
-or_false : (b : Bool) → (b || false) ≡ b
-or_false true = refl
-or_false false = refl
-
-and_false : (b : Bool) → (b && false) ≡ false
-and_false true = refl
-and_false false = refl
 
 either : (a b c : Bool) → (a && (b || c)) ≡ ((a && b) || (a && c))
 either true b c = refl
@@ -57,7 +46,7 @@ with_item : (test more : ℕ → Bool) (row : List ℕ) (x : ℕ) → ((u : ℕ)
 with_item test more row x is h = record {
   within = All-push (λ u. more u ≡ true) row x
       (All-weaker (λ u. test u ≡ true) (λ u. more u ≡ true) (λ u passing. is u ∙ ap (λ b. b || (x == u)) passing) row h.within)
-      (is x ∙ ap (λ b. test x || b) (eq-eqb x x refl) ∙ or_true (test x));
+      (is x ∙ ap (λ b. test x || b) (eq-eqb x x refl) ∙ or-true (test x));
   each = λ u passing. elim (true_or_false (test u)) [
     | inl passes ↦ Contains-append_left row (x ∷ []) u (h.each u passes)
     | inr fails ↦ (let same : x ≡ u = eqb-true x u (sym (ap (λ b. b || (x == u)) fails) ∙ sym (is u) ∙ passing) in
@@ -86,12 +75,12 @@ joined_none e v u apart other = grind (arith, nat_tests)
 
 grown : (e : Edge) (test more : ℕ → Bool) (v : ℕ) (row : List ℕ) → ((u : ℕ) → more u ≡ (test u || is_joined e v u)) → HasMembers test row → HasMembers more (row ++ other_end e v)
 grown e test more v row is h = elim (eqb_tells e.source e.target) [
-  | inl (loop, same) ↦ rw (loop, append-nil) (with_none test more row (λ u. is u ∙ ap (λ b. test u || b) (joined_loop e v u same) ∙ or_false (test u)) h)
+  | inl (loop, same) ↦ rw (loop, append-nil) (with_none test more row (λ u. is u ∙ ap (λ b. test u || b) (joined_loop e v u same) ∙ or-false (test u)) h)
   | inr (two, apart) ↦ elim (eqb_tells e.target v) [
     | inl (passing, here) ↦ rw (two, passing) (with_item test more row e.source (λ u. is u ∙ ap (λ b. test u || b) (joined_target e v u apart here)) h)
     | inr (other, elsewhere) ↦ elim (eqb_tells e.source v) [
       | inl (passing, here) ↦ rw (two, other, passing) (with_item test more row e.target (λ u. is u ∙ ap (λ b. test u || b) (joined_source e v u apart here)) h)
-      | inr (none, nowhere) ↦ rw (two, other, none, append-nil) (with_none test more row (λ u. is u ∙ ap (λ b. test u || b) (joined_none e v u elsewhere nowhere) ∙ or_false (test u)) h)
+      | inr (none, nowhere) ↦ rw (two, other, none, append-nil) (with_none test more row (λ u. is u ∙ ap (λ b. test u || b) (joined_none e v u elsewhere nowhere) ∙ or-false (test u)) h)
     ]
   ]
 ]
@@ -105,7 +94,7 @@ members_more edges i d v row below h = grown (get_or edges i d) (is_neighbour (t
 pub no_members : (v : ℕ) → HasMembers (is_neighbour [] v) []
 no_members v = record {
   within = λ k d below. absurd (omega arith);
-  each = λ u passing. absurd (let never : false ≡ true = sym (and_false (not (u == v))) ∙ passing in cc);
+  each = λ u passing. absurd (let never : false ≡ true = sym (and-false (not (u == v))) ∙ passing in cc);
 }
 
 -- ---- each member once

@@ -1,6 +1,7 @@
 -- The table of stamps tells which numbers below the row's length are among its edge values.
-use Rattle.std.proofs.Common.{◌≡◌, ℕ, ◌+◌, ◌<◌, ◌≤◌, ◌≢◌, Bool, true, false, List, length, get_or, set, take, refl, sym, ◌∙◌, ap, arith, inl, inr}
+use Rattle.std.proofs.Common.{◌≡◌, ℕ, ◌+◌, ◌<◌, ◌≤◌, ◌≢◌, true, false, List, length, get_or, set, take, sym, ◌∙◌, ap, arith, inl, inr}
 use Rattle.std.specs.Prelude.{◌==◌, ◌||◌, All, Any, Contains}
+use Rattle.std.proofs.Math.Bool.{or-true, or-false}
 use Rattle.std.proofs.lemmas.Bool.{cases_lt, eq-eqb, eqb-true, ne_eqb}
 use Rattle.std.proofs.lemmas.Bool.Decides.{eqb_tells}
 use Rattle.std.proofs.lemmas.List.{get_or-set_other, get_or-set_same}
@@ -17,14 +18,6 @@ Marks limit stamp stamps items = (k : ℕ) → k < limit → (get_or stamps k 0 
 pub none_marked : (limit stamp : ℕ) (stamps : List ℕ) → limit ≤ length stamps → All (λ s. s < stamp) stamps → Marks limit stamp stamps (take 0 stamps)
 none_marked limit stamp stamps room fresh = λ k below. ne_eqb (get_or stamps k 0) stamp (λ same. omega (arith, fresh k 0 (omega arith), same))
 
-or_true : (b : Bool) → (b || true) ≡ true
-or_true true = refl
-or_true false = refl
-
-or_false : (b : Bool) → (b || false) ≡ b
-or_false true = refl
-or_false false = refl
-
 -- one edge value more, which is below the limit
 pub marked_more : (limit stamp : ℕ) (stamps items : List ℕ) (i : ℕ) → i < length items → limit ≤ length stamps → get_or items i 0 < limit →
     Marks limit stamp stamps (take i items) → Marks limit stamp (set stamps (get_or items i 0) stamp) (take (i + 1) items)
@@ -33,11 +26,11 @@ marked_more limit stamp stamps items i inside room low so_far = λ k below. elim
       (let here : get_or items i 0 < length stamps = omega (arith, low, room) in
       let stamped : get_or (set stamps (get_or items i 0) stamp) k 0 ≡ stamp = ap (λ at. get_or (set stamps (get_or items i 0) stamp) at 0) (sym same) ∙ get_or-set_same stamps (get_or items i 0) stamp 0 here in
       eq-eqb (get_or (set stamps (get_or items i 0) stamp) k 0) stamp stamped
-      ∙ sym (list_any_more (λ item. item == k) items i 0 inside ∙ ap (λ b. is_listed (take i items) k || b) is ∙ or_true (is_listed (take i items) k)))
+      ∙ sym (list_any_more (λ item. item == k) items i 0 inside ∙ ap (λ b. is_listed (take i items) k || b) is ∙ or-true (is_listed (take i items) k)))
   | inr (is, apart) ↦
       (let other : k ≢ get_or items i 0 = λ e. apart (sym e) in
       ap (λ s. s == stamp) (get_or-set_other stamps (get_or items i 0) k stamp 0 other) ∙ so_far k below
-      ∙ sym (list_any_more (λ item. item == k) items i 0 inside ∙ ap (λ b. is_listed (take i items) k || b) is ∙ or_false (is_listed (take i items) k)))
+      ∙ sym (list_any_more (λ item. item == k) items i 0 inside ∙ ap (λ b. is_listed (take i items) k || b) is ∙ or-false (is_listed (take i items) k)))
 ]
 
 -- one that isn't
@@ -45,7 +38,7 @@ pub passed_over : (limit stamp : ℕ) (stamps items : List ℕ) (i : ℕ) → i 
     Marks limit stamp stamps (take i items) → Marks limit stamp stamps (take (i + 1) items)
 passed_over limit stamp stamps items i inside past so_far = λ k below.
     let other : (get_or items i 0 == k) ≡ false = ne_eqb (get_or items i 0) k (λ e. omega (arith, past, e, below)) in
-    so_far k below ∙ sym (list_any_more (λ item. item == k) items i 0 inside ∙ ap (λ b. is_listed (take i items) k || b) other ∙ or_false (is_listed (take i items) k))
+    so_far k below ∙ sym (list_any_more (λ item. item == k) items i 0 inside ∙ ap (λ b. is_listed (take i items) k || b) other ∙ or-false (is_listed (take i items) k))
 
 -- ---- the first place without the stamp
 

@@ -21,16 +21,6 @@ part_is load setup last entries h = ap (λ (s : Setup). joined_part s entries) h
 
 -- ---- whole or not
 
-pub counted_if_whole : (load : LoadData) (setup : Setup) (last : ℕ) (entries : EntryLists) → Keeps load setup last entries → IsWhole load → AreCounted setup entries
-counted_if_whole load setup last entries h whole =
-    subst (λ (s : Setup). AreCounted s entries) (sym h.given)
-    (subst (AreCounted load.setup) (sym h.joined) (record { starts = whole.part.starts; mirrors = whole.mirrors; boundary = whole.boundary; reads = whole.reads }))
-
-pub rows_if_whole : (load : LoadData) (setup : Setup) (last : ℕ) (entries : EntryLists) → Keeps load setup last entries → IsWhole load → AreRows setup.low setup.high entries.reads
-rows_if_whole load setup last entries h whole =
-    subst (λ (s : Setup). AreRows s.low s.high entries.reads) (sym h.given)
-    (subst (λ (e : EntryLists). AreRows load.setup.low load.setup.high e.reads) (sym h.joined) (record { order = whole.order; targets = whole.targets }))
-
 pub fits_if_whole : (load : LoadData) (setup : Setup) (last : ℕ) (entries : EntryLists) (part : Part) → Keeps load setup last entries → part ≡ joined_part setup entries → IsWhole load → PartFits part
 fits_if_whole load setup last entries part h e whole = subst PartFits (sym (e ∙ part_is load setup last entries h)) whole.part
 

@@ -1,10 +1,9 @@
 -- Rows out of triples that never fall: those of one target stand together.
 use Rattle.std.proofs.Common.{◌≡◌, ℕ, ◌+◌, ◌-◌, ◌<◌, ◌≤◌, ◌≢◌, Bool, true, false, List, [], ◌∷◌, ◌++◌, length, map, take, drop, get_or, refl, sym, ap, ◌∙◌, subst, inl, inr, arith}
-use Rattle.std.specs.Prelude.{◌==◌, nat_lt, filter, All, IsTrue}
+use Rattle.std.specs.Prelude.{◌==◌, nat_lt, filter, All}
 use Rattle.std.specs.List.{HoldsAt}
 use Rattle.std.specs.List.Sorted.{IsSortedBy, IsNonDecreasingBy}
 use Rattle.std.proofs.lemmas.Bool.{cases_lt, lt-ltb, eq-eqb, ne_eqb, false≢true}
-use Rattle.std.proofs.lemmas.Bool.Decides.{nat_tests}
 use Rattle.std.proofs.lemmas.List.{append-nil, take-append-drop, length-take-le, length-drop, length-map, get_or-drop, drop-drop}
 use Rattle.std.proofs.lemmas.List.Elements.{All-head, All-tail, All-weaker, filter-append}
 use Rattle.std.proofs.lemmas.List.Sorted.{IsNonDecreasingBy-from_all_adjacent, IsNonDecreasingBy-drop}
@@ -13,7 +12,6 @@ use Rattle.px_base.specs.declared.graph.Read.{Read}
 use Rattle.px_base.specs.declared.frame.Triple.{Triple}
 use Rattle.px_base.specs.FrameFits.{is_lower_triple}
 use Rattle.px_base.specs.Graphs.{read_count}
-use Rattle.px_base.specs.Parts.{is_within}
 use Rattle.px_base.specs.Values.{by_position}
 use Rattle.px_base.proofs.Positions.{by_position_more}
 use Rattle.part_loads.specs.Loads.{read_of, reads_by}
@@ -104,20 +102,6 @@ pub record RowsTo (low v : ℕ) (triples : List Triple) (at : ℕ) (rows : List 
   pub rest : (w : ℕ) → v ≤ w → filter (λ t. t.target == w) (drop at triples) ≡ filter (λ t. t.target == w) triples
   pub from : All (λ t. v ≤ t.target) (drop at triples)
 
-within_from : (low high v : ℕ) → IsTrue (is_within low high v) → low ≤ v
-within_from low high v h = grind (arith, nat_tests)
-
-pub rows_begin : (low high : ℕ) (triples : List Triple) → AreRows low high triples → RowsTo low low triples 0 []
-rows_begin low high triples h =
-    let none : low - low ≡ 0 = omega arith in
-    record {
-      are = rw none refl;
-      count = refl;
-      within = omega arith;
-      rest = λ w later. refl;
-      from = λ k d below. within_from low high (get_or triples k d).target (h.targets k d below);
-    }
-
 pub rows_more : (low high v : ℕ) (triples rest : List Triple) (at run : ℕ) (rows : List (List Read)) → low ≤ v → AreRows low high triples → RowsTo low v triples at rows
     → rest ≡ drop at triples → run ≤ length rest → All (λ t. t.target ≡ v) (take run rest) → EndsAt v rest run
     → RowsTo low (v + 1) triples (at + run) (rows ++ map read_of (take run rest) ∷ [])
@@ -143,10 +127,3 @@ rows_more low high v triples rest at run rows above h to is within all end =
       rest = λ w after. ap (targeted w) dropped ∙ rest_is v w rest run (omega arith) all ∙ ap (targeted w) is ∙ to.rest w (omega arith);
       from = subst (All (λ (t : Triple). v + 1 ≤ t.target)) (sym dropped) (later v rest run rise from end);
     }
-
--- the last row was made
-pub rows_end : (low high v : ℕ) (triples : List Triple) (at : ℕ) (rows : List (List Read)) → RowsTo low v triples at rows → v ≡ high → rows ≡ rows_by low high triples
-rows_end low high v triples at rows to e = to.are ∙ ap (λ (w : ℕ). rows_by low w triples) e
-
-pub rows_count : (low v : ℕ) (triples : List Triple) (at : ℕ) (rows : List (List Read)) → RowsTo low v triples at rows → read_count rows ≤ length triples
-rows_count low v triples at rows to = let inside = to.within in let count = to.count in omega arith

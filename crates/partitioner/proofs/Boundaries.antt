@@ -7,6 +7,7 @@ use Rattle.std.proofs.lemmas.Bool.Decides.{nat_tests}
 use Rattle.px_base.specs.declared.graph.Read.{Read}
 use Rattle.px_base.specs.Parts.{IsCuts, IsOwner, low_of, high_of, part_count, is_within, is_master, is_mirror, is_routed, part_rows, reads_from, boundary_of}
 use Rattle.px_base.proofs.Owners.{one_owner}
+use Rattle.px_base.proofs.Ranges.{within_bounds}
 use Rattle.partitioner.proofs.Owned.{an_owner, low_below_high, high_before_low}
 use Rattle.partitioner.proofs.Found.{PassesAt, from_back, to_back, in_front, front_has, in_back, back_has, some_position, position_has}
 use Rattle.partitioner.proofs.Ranges.{filters_agree}
@@ -35,9 +36,6 @@ right false b h = h
 pub within : (low high v : ℕ) → low ≤ v → v < high → is_within low high v ≡ true
 within low high v from to = grind (arith, nat_tests)
 
-pub bounds : (low high v : ℕ) → is_within low high v ≡ true → (low ≤ v) × (v < high)
-bounds low high v h = grind (arith, nat_tests)
-
 no_true : (b : Bool) → not b ≡ true → b ≡ true → ⊥
 no_true true n h = cc
 no_true false n h = cc
@@ -47,7 +45,7 @@ not_true true h = absurd (h refl)
 not_true false h = refl
 
 master_of : (cuts : List ℕ) (v i : ℕ) → i < part_count cuts → is_master cuts i v ≡ true → IsOwner cuts v i
-master_of cuts v i below h = let b : (low_of cuts i ≤ v) × (v < high_of cuts i) = bounds (low_of cuts i) (high_of cuts i) v h in record { below = below; from = b.0; to = b.1 }
+master_of cuts v i below h = let b : (low_of cuts i ≤ v) × (v < high_of cuts i) = within_bounds (low_of cuts i) (high_of cuts i) v h in record { below = below; from = b.0; to = b.1 }
 
 -- a row of another part, at its place among all rows
 record ReadAt (rows : List (List Read)) (v k : ℕ) (low high : ℕ) : Type 0 where

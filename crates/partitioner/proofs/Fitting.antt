@@ -5,7 +5,6 @@ use Rattle.std.proofs.lemmas.List.Folds.{list_any_at}
 use Rattle.std.proofs.lemmas.Map.Views.{any-filter_same}
 use Rattle.std.specs.Prelude.{All, not, ◌==◌, ◌&&◌, ◌||◌, filter, slice_index, slice_range}
 use Rattle.std.specs.List.{list_any, range_with_len}
-use Rattle.std.specs.List.Sorted.{IsStrictlyIncreasing}
 use Rattle.std.proofs.lemmas.List.Elements.{All-take, All-drop, All-filter, All-map, filter_passes}
 use Rattle.std.proofs.lemmas.List.Kept.{IsStrictlyIncreasing-filter}
 use Rattle.std.proofs.lemmas.List.Sums.{sum_by-take-le, sum_by-take-drop}
@@ -17,15 +16,11 @@ use Rattle.px_base.specs.declared.memory.Memory.{Memory}
 use Rattle.px_base.specs.Values.{IsValue, positions_below, is_listed}
 use Rattle.px_base.specs.Graphs.{RowsFit, read_count}
 use Rattle.px_base.specs.Parts.{IsCuts, IsWorkerCuts, PartFits, low_of, high_of, part_count, is_within, is_master, is_mirror, is_routed, part_rows, part_of, mirrors_of, boundary_of, route_of, reads_from}
+use Rattle.px_base.proofs.Members.{range_rises}
 use Rattle.partitioner.specs.Pieces.{part_with}
 use Rattle.partitioner.proofs.Owned.{low_below_high, high_inside}
 use Rattle.partitioner.proofs.Found.{position_has}
 use Rattle.partitioner.proofs.Boundaries.{within}
-
-pub range_rises : (a n : ℕ) → IsStrictlyIncreasing (range_with_len a n)
-range_rises a n k inside =
-    let few : k + 1 < n = omega (arith, length-range_with_len a n) in
-    omega (arith, get_or-range_with_len a n k 0 (omega arith), get_or-range_with_len a n (k + 1) 0 few)
 
 range_holds : (P : ℕ → Type 0) (a n : ℕ) → ((v : ℕ) → a ≤ v → v < a + n → P v) → All P (range_with_len a n)
 range_holds P a n each k d inside =

@@ -2,20 +2,13 @@
 use Rattle.std.proofs.Common.{◌≡◌, ℕ, zero, suc, ap, replicate, ◌+◌, ◌<◌, Bool, true, false, List, length, get_or, set, take, refl, sym, ◌∙◌, inl, inr, get_or-set_same, get_or-set_other}
 use Rattle.std.specs.Prelude.{◌==◌, ◌||◌, ◌&&◌, not, filter}
 use Rattle.std.specs.List.{list_any, range_with_len}
+use Rattle.std.proofs.Math.Bool.{or-true, or-false}
 use Rattle.std.proofs.lemmas.List.Elements.{filter_agree}
 use Rattle.px_base.specs.Values.{positions_below}
 use Rattle.std.proofs.lemmas.Bool.Decides.{eqb_tells}
 use Rattle.std.proofs.lemmas.List.Folds.{list_any_more}
 use Rattle.px_base.specs.declared.graph.Read.{Read}
 use Rattle.px_base.specs.Parts.{reads_from, is_within}
-
-or_true : (b : Bool) → (b || true) ≡ true
-or_true true = refl
-or_true false = refl
-
-or_false : (b : Bool) → (b || false) ≡ b
-or_false true = refl
-or_false false = refl
 
 pub or_assoc : (a b c : Bool) → ((a || b) || c) ≡ (a || (b || c))
 or_assoc true b c = refl
@@ -24,8 +17,8 @@ or_assoc false b c = refl
 -- one mark more
 pub marked_more : (marks : List Bool) (s u : ℕ) → s < length marks → get_or (set marks s true) u false ≡ (get_or marks u false || (s == u))
 marked_more marks s u below = elim (eqb_tells s u) [
-  | inl (t, same) ↦ rw (t, ← same) (get_or-set_same marks s true false below ∙ sym (or_true (get_or marks s false)))
-  | inr (t, apart) ↦ rw t (get_or-set_other marks s u true false (λ e. apart (sym e)) ∙ sym (or_false (get_or marks u false)))
+  | inl (t, same) ↦ rw (t, ← same) (get_or-set_same marks s true false below ∙ sym (or-true (get_or marks s false)))
+  | inr (t, apart) ↦ rw t (get_or-set_other marks s u true false (λ e. apart (sym e)) ∙ sym (or-false (get_or marks u false)))
 ]
 
 pub marked_rows_more : (before now : Bool) (u i : ℕ) (rows : List (List Read)) (d : List Read) → i < length rows →

@@ -96,7 +96,8 @@ renewed_fit part core masters mirrors short fits =
 
 -- ---- what is announced
 
-at_any_place : (values : List ℕ) (k : ℕ) → All IsValue values → IsValue (get_or values k 0)
+-- a list of values has one at any place; past its end that is 0
+pub at_any_place : (values : List ℕ) (k : ℕ) → All IsValue values → IsValue (get_or values k 0)
 at_any_place values k known = elim (cases_lt k (length values)) [ inl inside ↦ known k 0 inside | inr past ↦ rw (nothing_there values k past) (omega arith) ]
   where
     nothing_there : (values : List ℕ) (k : ℕ) → length values ≤ k → get_or values k 0 ≡ 0

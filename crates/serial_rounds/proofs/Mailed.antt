@@ -14,8 +14,9 @@ use Rattle.px_base.specs.Worlds.{first_foreign}
 use Rattle.px_base.specs.ValueSteps.{announcements, updated_mirrors}
 use Rattle.px_base.specs.Parts.{IsCuts, IsOwner, PartFits, part_count, low_of, high_of, is_mirror, is_routed, mirrors_of, boundary_of, part_of, route_of, routes_of}
 use Rattle.px_base.proofs.Positions.{at_position}
-use Rattle.partitioner.proofs.Boundaries.{bounds}
-use Rattle.partitioner.proofs.Fitting.{range_rises, mirror_on_route}
+use Rattle.px_base.proofs.Ranges.{within_bounds}
+use Rattle.px_base.proofs.Members.{range_rises}
+use Rattle.partitioner.proofs.Fitting.{mirror_on_route}
 use Rattle.partitioner.proofs.Found.{position_has}
 use Rattle.partitioner.proofs.Owned.{an_owner, high_inside}
 use Rattle.partitioner.proofs.Routed.{each_position}
@@ -63,7 +64,7 @@ all_news : (all : Bool) (rows : List (List Read)) (starts cuts : List ℕ) (i : 
     All (IsNews (length rows) z) (told_by all rows starts cuts i x z)
 all_news all rows starts cuts i x z fits inside = all_announced (IsNews (length rows) z) all (part_of rows starts cuts i) (share cuts i x) (share cuts i z) (λ k d below.
     let v : ℕ = get_or (boundary_of rows cuts i) k d in
-    let range : (low_of cuts i ≤ v) × (v < high_of cuts i) = bounds (low_of cuts i) (high_of cuts i) v (fits.boundary_inside k d below) in
+    let range : (low_of cuts i ≤ v) × (v < high_of cuts i) = within_bounds (low_of cuts i) (high_of cuts i) v (fits.boundary_inside k d below) in
     let back : low_of cuts i + (v - low_of cuts i) ≡ v = omega (arith, range.0) in
     record {
       value_is = at_range z (low_of cuts i) (high_of cuts i) (v - low_of cuts i) 0 (omega (arith, range.0, range.1)) ∙ ap (slice_index z) back;

@@ -1,38 +1,18 @@
 //! The answer of a program.
-ghost use Rattle.std.specs.Prelude.{◌≡◌, ◌≤◌, ◌^◌, All, IfOk, Ok, map};
+ghost use Rattle.std.specs.Prelude.{◌≡◌, ◌≤◌, ◌^◌, IfOk, Ok};
 ghost use Rattle.px_base.specs.declared.program.Class.TheVariants.{LocallyCorrecting};
-ghost use Rattle.px_base.specs.Values.{IsValue, IsValueList, flip};
+ghost use Rattle.px_base.specs.Values.{IsValueList};
 ghost use Rattle.px_base.specs.Graphs.{RowsFit, read_count};
 ghost use Rattle.px_base.specs.Classes.{class_of};
 ghost use Rattle.px_base.specs.Answers.{IsGreatestConsistent};
-ghost use Rattle.px_base.specs.Core.{core_value};
 
 use crate::rounds::settled;
 use partitioner::cut;
 use program_table::core_starts;
-use px_base::{CoreProgram, Memory, Program, ReadGraph, Value};
+use px_base::{Memory, Program, ReadGraph, Value};
 use std::alloc::Global;
 use std::thread::Threads;
-use value_laws::{core_form, flip};
-
-fn flip_all(values: &mut [Value])
-    requires { All IsValue values.old }
-    ensures { values.new ≡ map flip values.old }
-{
-    for value in values.iter_mut() {
-        *value = flip(*value);
-    }
-}
-
-/// Puts the program's values in place of core values.
-fn turn_back(core: &CoreProgram, values: &mut [Value])
-    requires { All IsValue values.old }
-    ensures { values.new ≡ map (core_value core.now) values.old }
-{
-    if core.flipped {
-        flip_all(values);
-    }
-}
+use value_laws::{core_form, turn};
 
 /// The answer of a locally correcting program, by workers in rounds on this thread. In each round each worker gets one Step
 /// with all that the others sent it, until nothing changes and nothing is to be sent.
@@ -59,6 +39,6 @@ pub fn solve_in_rounds<R: Threads + Sync>(
     let core_starts = core_starts(alloc, &core, starts)?;
     let cuts = cut(alloc, graph.n, workers)?;
     let mut values = settled(rt, alloc, graph, core, &core_starts, &cuts)?;
-    turn_back(&core, &mut values);
+    turn(&core, &mut values);
     Ok(values)
 }

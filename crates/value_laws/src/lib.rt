@@ -12,4 +12,4 @@ pub use edges::EdgeRule;
 pub use gathers::{Gather, LeastGather, MexGather};
 pub use laws::{flip_turns_the_order, least_is_monotone};
 pub use px_base::{CoreProgram, least_is_least, mex_is_least_absent};
-pub use values::{core_form, edge_value, flip};
+pub use values::{core_form, edge_value, flip, turn};

@@ -1,8 +1,8 @@
-ghost use Rattle.std.specs.Prelude.{◌≡◌};
+ghost use Rattle.std.specs.Prelude.{◌≡◌, All, map};
 ghost use Rattle.px_base.specs.Values.{IsValue, IsWeight, flip};
 ghost use Rattle.px_base.specs.Classes.{takes_greatest};
 ghost use Rattle.px_base.specs.Rules.{edge_value};
-ghost use Rattle.px_base.specs.Core.{core_form};
+ghost use Rattle.px_base.specs.Core.{core_form, core_value};
 
 use px_base::{Along, CoreProgram, Fold, Program, TOP, Value, Weight};
 
@@ -50,5 +50,24 @@ pub fn core_form(program: &Program) -> CoreProgram
     CoreProgram {
         program: *program,
         flipped: takes_greatest(program.fold),
+    }
+}
+
+fn flip_all(values: &mut [Value])
+    requires { All IsValue values.old }
+    ensures { values.new ≡ map flip values.old }
+{
+    for value in values.iter_mut() {
+        *value = flip(*value);
+    }
+}
+
+/// Puts core values in place of values, or values in place of core values.
+pub fn turn(core: &CoreProgram, values: &mut [Value])
+    requires { All IsValue values.old }
+    ensures { values.new ≡ map (core_value core.now) values.old }
+{
+    if core.flipped {
+        flip_all(values);
     }
 }

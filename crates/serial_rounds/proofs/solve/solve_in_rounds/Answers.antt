@@ -19,9 +19,9 @@ settled-requires-clause-count g c κs within = core_no_count c.args.program.now 
 
 pub returns : goal.returns
 returns g c =
-    let values : (with_items c.in_ok-values.values c.turn_back.new.values).items ≡ c.turn_back.new.values =
-    with_items_is c.in_ok-values.values c.turn_back.new.values (c.turn_back.auto.values ∙ c.deref_mut.ensures.len) in
+    let values : (with_items c.in_ok-values.values c.turn.new.values).items ≡ c.turn.new.values =
+    with_items_is c.in_ok-values.values c.turn.new.values (c.turn.auto.values ∙ c.deref_mut.ensures.len) in
     let P : List ℕ → Type 0 = λ xs. IsGreatestConsistent c.args.program.now c.args.graph.rows c.args.starts.now xs in
     subst P (sym values) (answer_is c.args.graph.n c.args.program.now c.args.graph.rows c.args.starts.now c.core_form-core.result c.deref.result.now c.in_ok-values.values.items
-    c.deref_mut.result.now c.turn_back.new.values c.requires.class c.requires.rows c.requires.starts c.core_form-core.ensures
-    (c.deref.ensures.value ∙ c.in_ok-core_starts.ensures.core) c.in_ok-values.ensures c.deref_mut.ensures.value c.turn_back.ensures)
+    c.deref_mut.result.now c.turn.new.values c.requires.class c.requires.rows c.requires.starts c.core_form-core.ensures
+    (c.deref.ensures.value ∙ c.in_ok-core_starts.ensures.core) c.in_ok-values.ensures c.deref_mut.ensures.value c.turn.ensures)

@@ -1,7 +1,7 @@
 use Rattle.std.proofs.Common.{◌≡◌, ◌-◌, ◌<◌, ◌∙◌, true, sym, arith}
 use Rattle.px_base.specs.Parts.{is_within}
 use Rattle.count_world.proofs.Linked.{link_grows, read_grows}
-use Rattle.count_world.proofs.Masters.{within_bounds}
+use Rattle.px_base.proofs.Ranges.{within_bounds}
 use Rattle.count_world.proofs.readers.Readers.link_read.Goals as goal
 
 pub returns-in_ok-link : goal.returns-in_ok-link

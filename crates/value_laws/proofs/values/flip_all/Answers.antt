@@ -3,7 +3,7 @@ use Rattle.std.proofs.lemmas.List.{get_or_default}
 use Rattle.std.proofs.lemmas.List.Edits.{map_over_more}
 use Rattle.std.proofs.lemmas.List.Elements.{All-set}
 use Rattle.px_base.specs.Values.{IsValue, flip}
-use Rattle.serial_rounds.proofs.solve.flip_all.Goals as goal
+use Rattle.value_laws.proofs.values.flip_all.Goals as goal
 
 pub loop-value-preserved : goal.loop-value-preserved
 loop-value-preserved c =

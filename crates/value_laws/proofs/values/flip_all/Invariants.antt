@@ -1,7 +1,7 @@
 use Rattle.std.proofs.Common.{◌≡◌, ◌++◌, map, take, drop}
 use Rattle.std.specs.Prelude.{All}
 use Rattle.px_base.specs.Values.{IsValue, flip}
-use Rattle.serial_rounds.proofs.solve.flip_all.Given as goal
+use Rattle.value_laws.proofs.values.flip_all.Given as goal
 
 -- the first values are flipped, and the others aren't yet
 abbrev pub invariant-loop-value : goal.invariant-loop-value

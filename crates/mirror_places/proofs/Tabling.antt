@@ -1,6 +1,6 @@
 -- Positions of a rising list by blocks of 16.
-use Rattle.std.proofs.Common.{◌≡◌, ℕ, zero, suc, ◌+◌, ◌*◌, ◌-◌, ◌<◌, ◌≤◌, ◌^◌, ◌≢◌, true, false, List, [], ◌∷◌, ◌++◌, length, length-append, get_or, max, refl, inl, inr, arith, eq-eqb}
-use Rattle.std.specs.Prelude.{◌==◌, All, slice_index, Option, Some, None, IfSome, IfNone}
+use Rattle.std.proofs.Common.{◌≡◌, ℕ, zero, suc, ◌+◌, ◌*◌, ◌/◌, ◌-◌, ◌<◌, ◌≤◌, ◌^◌, ◌≢◌, Bool, true, false, List, [], ◌∷◌, ◌++◌, length, length-append, get_or, max, refl, ap, inl, inr, arith, eq-eqb}
+use Rattle.std.specs.Prelude.{◌==◌, if◌then◌else◌, All, slice_index, Option, Some, None, IfSome, IfNone}
 use Rattle.std.specs.List.Sorted.{IsStrictlyIncreasing}
 use Rattle.std.proofs.lemmas.Bool.{cases_lt}
 use Rattle.std.proofs.Math.ListN.{get_or-append}
@@ -8,14 +8,17 @@ use Rattle.std.proofs.Math.Seq.{get_or-append_seam}
 use Rattle.std.proofs.lemmas.List.Folds.{list_any_at}
 use Rattle.px_base.specs.Values.{is_listed, place_of}
 use Rattle.px_base.proofs.Listed.{place_is, not_equal, rising_apart, rises_from_zero}
-use Rattle.mirror_places.specs.Tables.{CountsBelow, IsTableOf}
+use Rattle.mirror_places.specs.Tables.{CountsBelow, IsTableOf, table_size}
 
 -- ---- the table so far
 
--- Each block that has an entry has the right one, and the first k positions lie in blocks that have one.
+-- Each block that has an entry has the right one, the first k positions lie in blocks that have one, and no block after the
+-- last of these has.
 pub record IsBegun (positions starts : List ℕ) (k : ℕ) : Type 0 where
   pub each : (b : ℕ) → b < length starts → CountsBelow positions (16 * b) (slice_index starts b)
   pub before : (j : ℕ) → j < k → slice_index positions j < 16 * length starts
+  pub none : k ≡ 0 → length starts ≡ 0
+  pub few : (j : ℕ) → k ≡ j + 1 → 16 * length starts ≤ slice_index positions j + 16
 
 -- a rising list of positions below 2 ^ 22 has no more entries than that
 pub few : (positions : List ℕ) → IsStrictlyIncreasing positions → All (λ p. p < 2 ^ 22) positions → length positions ≤ 2 ^ 22
@@ -51,6 +54,11 @@ begun_more positions old new k block rising inside begun low high count kept add
     | inl less ↦ omega (arith, begun.before j less)
     | inr same ↦ (let is : j ≡ k = omega arith in rw is (omega arith))
   ];
+  none = λ e. absurd (omega arith);
+  few = λ j e. (let is : j ≡ k = omega arith in rw is (elim (cases_lt 0 k) [
+    | inl some ↦ omega (arith, begun.few (k - 1) (omega arith), rising_apart positions rising (k - 1) k (omega arith) inside)
+    | inr first ↦ (let at_first : k ≡ 0 = omega arith in omega (arith, begun.none at_first))
+  ]));
 }
 
 -- the table with its last entry
@@ -67,6 +75,16 @@ table_made positions starts begun =
       ];
       last = rw (seam, at_end) refl;
     }
+
+-- no more entries than have to be
+pub size_made : (positions starts : List ℕ) → IsBegun positions starts (length positions) → length (starts ++ length positions ∷ []) ≡ table_size positions
+size_made [] starts begun = omega (arith, length-append starts (0 ∷ []), begun.none refl)
+size_made (p ∷ positions) starts begun =
+    let all : List ℕ = p ∷ positions in
+    let last : ℕ = length all - 1 in
+    let some : (length all == 0) ≡ false = not_equal (length all) 0 (λ e. absurd (omega (arith, e))) in
+    let is : table_size all ≡ slice_index all last / 16 + 2 = ap (λ (none : Bool). if none then 1 else slice_index all last / 16 + 2) some in
+    omega (arith, is, length-append starts (length all ∷ []), begun.few last (omega arith), begun.before last (omega arith))
 
 -- ---- what is found
 

@@ -1,4 +1,5 @@
 ghost use Rattle.std.specs.Prelude.{◌≡◌, ◌≢◌, ◌+◌, ◌*◌, ◌^◌, ◌<◌, ◌≤◌, ℕ, max, IfSome, IfNone, OnOk, length, slice_index};
+ghost use Rattle.mirror_places.specs.Tables.{table_size};
 
 use px_base::{Memory, Pos};
 
@@ -14,7 +15,9 @@ pub fn block_of(u: Pos) -> usize
 }
 
 /// How many entries the table of a rising list has.
-pub fn table_room(positions: &[Pos]) -> usize {
+pub fn table_size(positions: &[Pos]) -> usize
+    ensures { result ≡ table_size positions.now }
+{
     match positions.last() {
         Some(greatest) => block_of(*greatest) + 2,
         None => 1,
@@ -37,6 +40,7 @@ pub fn start_blocks(starts: &mut Vec<u32>, block: usize, at: u32) -> Result<(), 
 /// The first place from `from` on and before `to` at which the position stands.
 pub fn find_between(positions: &[Pos], from: usize, to: usize, u: Pos) -> Option<usize>
     requires { to ≤ length positions.now }
+    ensures after { IfSome result (λ at. from ≤ at) }
     ensures some { IfSome result (λ at. (at < to) × (slice_index positions.now at ≡ u)) }
     ensures first { IfSome result (λ at. (k : ℕ) → from ≤ k → k < at → slice_index positions.now k ≢ u) }
     ensures none { IfNone result ((k : ℕ) → from ≤ k → k < to → slice_index positions.now k ≢ u) }

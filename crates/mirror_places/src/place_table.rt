@@ -1,4 +1,4 @@
-use crate::blocks::{block_of, find_between, start_blocks, table_room};
+use crate::blocks::{block_of, find_between, start_blocks, table_size};
 use px_base::{Memory, Pos};
 use std::alloc::Global;
 use std::marker::Model;
@@ -22,15 +22,16 @@ impl PlaceTable {
     ghost use Rattle.std.specs.Prelude.{◌≡◌, ◌<◌, ◌^◌, true, false, All, IfOk, IfSome, IfNone, length};
     ghost use Rattle.std.specs.List.Sorted.{IsStrictlyIncreasing};
     ghost use Rattle.px_base.specs.Values.{is_listed, place_of};
-    ghost use Rattle.mirror_places.specs.Tables.{IsTableOf};
+    ghost use Rattle.mirror_places.specs.Tables.{IsTableOf, table_size};
 
     /// The table of a rising list, made in one pass. Errors: want of memory.
     pub fn new(alloc: Global, positions: &[Pos]) -> Result<PlaceTable, Memory>
         requires rising { IsStrictlyIncreasing positions.now }
         requires below { All (λ p. p < 2 ^ 22) positions.now }
-        ensures { IfOk result (λ table. IsTableOf positions.now table) }
+        ensures table { IfOk result (λ table. IsTableOf positions.now table) }
+        ensures size { IfOk result (λ table. length table ≡ table_size positions.now) }
     {
-        let mut starts = Vec::with_capacity(alloc, table_room(positions))?;
+        let mut starts = Vec::with_capacity(alloc, table_size(positions))?;
         for (k, u) in positions.iter().enumerate() {
             start_blocks(&mut starts, block_of(*u), k as u32)?;
         }

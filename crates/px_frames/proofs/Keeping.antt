@@ -4,31 +4,16 @@ use Rattle.std.specs.Prelude.{flat_map, slice_get, All}
 use Rattle.std.proofs.lemmas.Bool.{false≢true}
 use Rattle.std.proofs.lemmas.List.{take-append-drop, length-take-le, length_push}
 use Rattle.std.proofs.lemmas.List.Concat.{flat_map-append}
-use Rattle.std.proofs.lemmas.List.Elements.{All-append, All-nil}
+use Rattle.std.proofs.lemmas.List.Elements.{All-append}
 use Rattle.px_base.specs.declared.frame.Frame.{Frame}
 use Rattle.px_base.specs.Frames.{spelling}
 use Rattle.px_base.specs.FrameFits.{FrameFits, AreFramesOf, IsTorn}
-use Rattle.px_frames.specs.Decodings.{Fed, nothing_fed, fed_more, took_more, Reading, counted_bytes, IsSound, IsTornAt, IsOldest, IsCount, IsShort, Keeps, Scans}
+use Rattle.px_frames.specs.Decodings.{Fed, fed_more, took_more, counted_bytes, IsSound, IsTornAt, IsOldest, IsCount, IsShort, Keeps, Scans}
 use Rattle.px_frames.proofs.Apart.{one_reading, HasNone}
 use Rattle.px_frames.proofs.Headers.{none_if_short, none_if_torn, short_not_torn, torn_more}
 
--- nothing was fed
-none_if_empty : HasNone []
-none_if_empty f more fits e = cc
-
 not_torn_if_empty : IsTorn [] → ⊥
 not_torn_if_empty h = let long : 8 ≤ 0 = h.0 in omega arith
-
-pub keeps_nothing : Keeps nothing_fed [] [] 0 false
-keeps_nothing = record {
-  taken = [];
-  rest = [];
-  took = refl;
-  are = record { fit = All-nil FrameFits; whole = refl; no_more = none_if_empty };
-  count = refl;
-  sound = λ e. (refl, not_torn_if_empty);
-  broken = λ e. absurd (false≢true e);
-}
 
 -- the rest after a scan begins with no frame
 none_after : (torn : Bool) (rest : List ℕ) → (torn ≡ true → IsTorn rest) → (torn ≡ false → IsShort rest) → HasNone rest
@@ -99,6 +84,18 @@ keeps_torn fed pending waiting whole h piece =
       broken = λ e. torn;
     }
 
+-- of a torn rest no bytes are kept
+pub keeps_no_bytes : (fed : Fed) (pending : List ℕ) (waiting : List Frame) (whole : ℕ) (torn : Bool) → torn ≡ true → Keeps fed pending waiting whole torn → Keeps fed [] waiting whole torn
+keeps_no_bytes fed pending waiting whole torn is h = record {
+  taken = h.taken;
+  rest = h.rest;
+  took = h.took;
+  are = h.are;
+  count = h.count;
+  sound = λ e. absurd (false≢true (sym e ∙ is));
+  broken = h.broken;
+}
+
 -- the oldest frame is taken
 pub keeps_rest : (fed : Fed) (pending : List ℕ) (f : Frame) (waiting : List Frame) (whole : ℕ) (torn : Bool) → Keeps fed pending (f ∷ waiting) whole torn → Keeps (took_more fed) pending waiting whole torn
 keeps_rest fed pending f waiting whole torn h =
@@ -114,9 +111,6 @@ keeps_rest fed pending f waiting whole torn h =
     }
 
 -- ---- what is answered
-
-pub reading_of : (fed : Fed) (pending : List ℕ) (waiting : List Frame) (whole : ℕ) (torn : Bool) → Keeps fed pending waiting whole torn → Reading fed.bytes
-reading_of fed pending waiting whole torn h = record { frames = h.taken ++ waiting; rest = h.rest; are = h.are }
 
 pub count_of : (fed : Fed) (pending : List ℕ) (waiting : List Frame) (whole : ℕ) (torn : Bool) → Keeps fed pending waiting whole torn → IsCount fed.bytes whole
 count_of fed pending waiting whole torn h = record { reading = record { frames = h.taken ++ waiting; rest = h.rest; are = h.are }; is = h.count }
@@ -138,9 +132,6 @@ oldest_of fed pending waiting whole torn h =
       reading = record { frames = h.taken ++ waiting; rest = h.rest; are = h.are };
       is = sym (slice_get_after h.taken waiting) ∙ ap (λ (n : ℕ). slice_get (h.taken ++ waiting) n) (sym h.took);
     }
-
-pub between_if_empty : (fed : Fed) (waiting : List Frame) (whole : ℕ) → Keeps fed [] waiting whole false → (frames : List Frame) × AreFramesOf fed.bytes frames []
-between_if_empty fed waiting whole h = (h.taken ++ waiting, subst (λ (l : List ℕ). AreFramesOf fed.bytes (h.taken ++ waiting) l) (h.sound refl).0 h.are)
 
 pub not_between_if_torn : (fed : Fed) (pending : List ℕ) (waiting : List Frame) (whole : ℕ) → Keeps fed pending waiting whole true → (frames : List Frame) × AreFramesOf fed.bytes frames [] → ⊥
 not_between_if_torn fed pending waiting whole h p =

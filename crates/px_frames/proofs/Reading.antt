@@ -1,17 +1,14 @@
 -- Frames that are read one after the other.
-use Rattle.std.proofs.Common.{◌≡◌, ℕ, ◌+◌, List, [], ◌∷◌, ◌++◌, take, drop, append-nil, append_assoc, length-drop, refl, sym, ap, ◌∙◌, arith}
+use Rattle.std.proofs.Common.{◌≡◌, ℕ, ◌+◌, List, [], ◌∷◌, ◌++◌, take, drop, append_assoc, length-drop, ap, ◌∙◌, arith}
 use Rattle.std.specs.Prelude.{flat_map}
 use Rattle.std.proofs.Math.Seq.{take-add}
 use Rattle.std.proofs.lemmas.List.{flat_map_more}
-use Rattle.std.proofs.lemmas.List.Elements.{All-push, All-nil}
+use Rattle.std.proofs.lemmas.List.Elements.{All-push}
 use Rattle.px_base.specs.declared.frame.Frame.{Frame}
 use Rattle.px_base.specs.Frames.{spelling}
 use Rattle.px_base.specs.FrameFits.{FrameFits}
 use Rattle.px_frames.specs.Decodings.{ScansTo}
 use Rattle.px_frames.specs.Fronts.{IsWhole}
-
-pub scans_none : (bytes : List ℕ) (old : List Frame) → ScansTo bytes old old 0
-scans_none bytes old = record { frames = []; added = sym (append-nil old); fit = All-nil FrameFits; within = omega arith; front = refl }
 
 -- one more frame is read
 pub scans_more : (bytes : List ℕ) (old new more : List Frame) (at len : ℕ) (f : Frame) → ScansTo bytes old new at → IsWhole (drop at bytes) f len → more ≡ new ++ f ∷ [] → ScansTo bytes old more (at + len)

@@ -64,6 +64,11 @@ pub record Keeps (fed : Fed) (pending : List ℕ) (waiting : List Frame) (whole 
   pub sound : torn ≡ false → (rest ≡ pending) × (IsTorn rest → ⊥)
   pub broken : torn ≡ true → IsTorn rest
 
+-- What a decoder holds of what it was fed: what it keeps, and no bytes once they are torn.
+pub record Holds (fed : Fed) (pending : List ℕ) (waiting : List Frame) (whole : ℕ) (torn : Bool) : Type 0 where
+  pub keeps : Keeps fed pending waiting whole torn
+  pub none : torn ≡ true → pending ≡ []
+
 -- The frames at the front of the bytes, up to this place, were added.
 pub record ScansTo (bytes : List ℕ) (old new : List Frame) (at : ℕ) : Type 0 where
   pub frames : List Frame

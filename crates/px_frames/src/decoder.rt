@@ -1,7 +1,7 @@
 ghost use Rattle.std.specs.Prelude.{◌≡◌, ℕ, ◌+◌, ◌^◌, ◌≤◌, min, true, false, ◌↔◌, [], ◌++◌, List, IsTrue, Err, IfOk, OnErr, MatchResult, drop, is_some, if◌then◌else◌, vec_len};
 ghost use Rattle.px_base.specs.declared.frame.Frame.{Frame as FrameData};
 ghost use Rattle.px_base.specs.FrameFits.{AreFramesOf};
-ghost use Rattle.px_frames.specs.Decodings.{nothing_fed, fed_more, took_more, Scans, Keeps, IsTornAt, IsOldest, IsCount};
+ghost use Rattle.px_frames.specs.Decodings.{nothing_fed, fed_more, took_more, Scans, IsTornAt, IsOldest, IsCount};
 ghost use Rattle.px_frames.specs.Feeds.{Takes, Refuses};
 
 use crate::front::{Front, read_front};
@@ -125,7 +125,7 @@ fn note_taken(history: &mut Shadow<History>)
 pub struct Decoder {
     alloc: Global,
     history: Shadow<History>,
-    /// The bytes after the whole frames. Once they are torn no more are kept.
+    /// The bytes after the whole frames. Once they are torn none are kept.
     pending: Vec<u8>,
     /// The frames that weren't taken yet.
     waiting: VecDeque<Frame>,
@@ -135,13 +135,13 @@ pub struct Decoder {
 }
 
 impl Model for Decoder {
-    ghost use Rattle.px_frames.specs.Decodings.{Fed, Keeps};
+    ghost use Rattle.px_frames.specs.Decodings.{Fed, Holds};
 
     ghost Value = { Fed };
 
     ghost view = { λ d. d.history };
 
-    ghost invariant = { λ d. Keeps d.history d.pending.items d.waiting.items d.whole d.torn };
+    ghost invariant = { λ d. Holds d.history d.pending.items d.waiting.items d.whole d.torn };
 }
 
 impl Decoder {
@@ -176,6 +176,7 @@ impl Decoder {
                 self.whole = counted(self.whole, scanned.at);
                 self.torn = scanned.torn;
                 if scanned.torn {
+                    self.pending.clear();
                     return Err(FeedFault::Torn { at: self.whole });
                 }
                 Ok(())

@@ -1,5 +1,5 @@
 use Rattle.std.proofs.Common.{◌≡◌, arith, length}
-use Rattle.mirror_places.proofs.Tabling.{few, begun_more, table_made, IsBegun}
+use Rattle.mirror_places.proofs.Tabling.{few, begun_more, table_made, size_made, IsBegun}
 use Rattle.mirror_places.proofs.place_table.PlaceTable.new.Goals as goal
 
 pub overflow_cast-k : goal.overflow_cast-k
@@ -13,8 +13,14 @@ loop-k-preserved c =
 pub overflow_cast-positions : goal.overflow_cast-positions
 overflow_cast-positions c = omega (arith, few c.args.positions.now c.requires.rising c.requires.below)
 
-pub returns : goal.returns
-returns c =
+pub returns-clause-table : goal.returns-clause-table
+returns-clause-table c =
     let whole : c.loop-k.k ≡ length c.args.positions.now = omega (arith, c.loop-k-test.false, c.loop-k.auto.k-end) in
     let begun : IsBegun c.args.positions.now c.loop-k.starts.items (length c.args.positions.now) = rw whole at c.loop-k.invariant in
     rw c.in_ok-push.ensures.items (table_made c.args.positions.now c.loop-k.starts.items begun)
+
+pub returns-clause-size : goal.returns-clause-size
+returns-clause-size c =
+    let whole : c.loop-k.k ≡ length c.args.positions.now = omega (arith, c.loop-k-test.false, c.loop-k.auto.k-end) in
+    let begun : IsBegun c.args.positions.now c.loop-k.starts.items (length c.args.positions.now) = rw whole at c.loop-k.invariant in
+    rw c.in_ok-push.ensures.items (size_made c.args.positions.now c.loop-k.starts.items begun)

@@ -3,4 +3,4 @@ use Rattle.px_frames.proofs.decoder.Decoder.taken.Goals as goal
 
 pub returns : goal.returns
 returns c =
-    rw (← c.self.view_is) (count_of c.self.inside.history c.self.inside.pending.items c.self.inside.waiting.items c.self.inside.whole c.self.inside.torn c.self.invariant)
+    rw (← c.self.view_is) (count_of c.self.inside.history c.self.inside.pending.items c.self.inside.waiting.items c.self.inside.whole c.self.inside.torn c.self.invariant.keeps)

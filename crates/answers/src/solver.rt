@@ -23,10 +23,10 @@ fn reads_needed(fold: Fold) -> u32
 }
 
 /// The answer of a program that has a class on a graph that was built for it, from these start values, by position. It is
-/// found plainly, on one thread: by sweeps until nothing changes, in one pass in the order of the rank, or by peeling.
+/// found plainly, on one thread: by sweeps and by following changes, in one pass in the order of the rank, or by peeling.
 ///
 /// # Errors
-/// `Memory` where there is no room for the values.
+/// `Memory` where there is no room for the values, or for what the way to them takes.
 #[tactic(auto, using(crate::proofs::ByClass::earlier, crate::proofs::ByClass::mutual_reads, crate::proofs::ByClass::answered))]
 pub fn solve(
     alloc: Global,

@@ -4,9 +4,12 @@
 //! list that is renewed. So renewals step down from the start values to the answer, in whatever order they come.
 #![tactic(auto)]
 
+mod following;
 mod laws;
+mod readers;
 mod solve;
 mod sweeps;
+mod waiting;
 
 pub use laws::{
     consistent_lists_stay_below, greatest_consistent_list, greatest_core_list,

@@ -1,51 +1,42 @@
-ghost use Rattle.std.specs.Prelude.{◌≡◌, All, IfOk, Ok, length, map};
+ghost use Rattle.std.specs.Prelude.{◌≡◌, IfOk, Ok, OnOk, length};
 ghost use Rattle.px_base.specs.declared.program.Class.TheVariants.{LocallyCorrecting};
-ghost use Rattle.px_base.specs.Values.{IsValue, IsValueList, flip};
+ghost use Rattle.px_base.specs.Values.{IsValueList};
 ghost use Rattle.px_base.specs.Graphs.{RowsFit};
 ghost use Rattle.px_base.specs.Classes.{class_of};
-ghost use Rattle.px_base.specs.Core.{core_form, core_value};
 ghost use Rattle.px_base.specs.Answers.{IsGreatestConsistent};
 
-use crate::sweeps::settle;
-use px_base::{CoreProgram, Items, Memory, Program, Read, ReadGraph, Value};
+use crate::following::settle;
+use px_base::{Items, Memory, Program, Read, ReadGraph, Value};
 use std::alloc::Global;
-use value_laws::{core_form, flip};
-
-fn flip_all(values: &mut [Value])
-    requires { All IsValue values.old }
-    ensures { values.new ≡ map flip values.old }
-{
-    for value in values.iter_mut() {
-        *value = flip(*value);
-    }
-}
-
-/// Puts core values in place of values, or values in place of core values.
-fn turn(core: &CoreProgram, values: &mut [Value])
-    requires { All IsValue values.old }
-    ensures { values.new ≡ map (core_value core.now) values.old }
-{
-    if core.flipped {
-        flip_all(values);
-    }
-}
+use value_laws::{core_form, turn};
 
 /// Puts the answer in place of the start values.
-fn solve_in_place(program: &Program, rows: &[Items<Read>], values: &mut [Value])
+fn solve_in_place(
+    alloc: Global,
+    program: &Program,
+    n: u32,
+    rows: &[Items<Read>],
+    values: &mut [Value],
+) -> Result<(), Memory>
+    requires size { length rows.now ≡ n }
     requires class { class_of program.now ≡ Ok LocallyCorrecting }
     requires rows { RowsFit (length rows.now) rows.now }
     requires starts { IsValueList (length rows.now) values.old }
-    ensures { IsGreatestConsistent program.now rows.now values.old values.new }
+    ensures { OnOk result (IsGreatestConsistent program.now rows.now values.old values.new) }
 {
     let core = core_form(program);
     turn(&core, values);
-    settle(&core, rows, values);
+    settle(alloc, &core, n, rows, values)?;
     turn(&core, values);
+    Ok(())
 }
 
-/// The answer of a locally correcting program on the graph: the greatest consistent list. It is found in core values, by
-/// sweeps over the vertices in rising order, each in place from the newest values, until a sweep changes nothing. No memory
-/// is taken but for the list of values, and no step costs more than its row. Errors: want of memory.
+/// The answer of a locally correcting program on the graph: the greatest consistent list. It is found in core values, in place:
+/// by sweeps over the vertices in rising order, 12 at most, until a sweep changes nothing. Where the last of them still changes
+/// something, changes are followed from there: whoever falls tells those who read it, first come first told. So a vertex is
+/// looked at again only where one that it reads has fallen. The list of values takes 8 bytes for each vertex, and the marks of
+/// those that fell take 1; to follow changes takes 8 bytes for each read and 8 for each vertex besides. Errors: want of
+/// memory, also where changes are to be followed over 2^32 reads or more.
 pub fn solve_consistent(
     alloc: Global,
     graph: &ReadGraph,
@@ -58,6 +49,12 @@ pub fn solve_consistent(
     ensures { IfOk result (λ x. IsGreatestConsistent program.now graph.now.rows starts.now x.items) }
 {
     let mut values = Vec::from_slice(alloc, starts)?;
-    solve_in_place(program, graph.rows.as_slice(), values.as_mut_slice());
+    solve_in_place(
+        alloc,
+        program,
+        graph.n,
+        graph.rows.as_slice(),
+        values.as_mut_slice(),
+    )?;
     Ok(values)
 }

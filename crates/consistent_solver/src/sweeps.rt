@@ -1,12 +1,15 @@
-ghost use Rattle.std.specs.Prelude.{◌≡◌, ◌<◌, All, IsFalse, length};
+ghost use Rattle.std.specs.Prelude.{◌≡◌, ◌<◌, All, IsFalse, length, true};
 ghost use Rattle.px_base.specs.Values.{IsValue, IsValueList, IsWeight};
 ghost use Rattle.px_base.specs.Classes.{is_mex};
 ghost use Rattle.px_base.specs.Graphs.{RowsFit};
 ghost use Rattle.px_base.specs.Rules.{least};
-ghost use Rattle.consistent_solver.specs.Sweeps.{core_edge_values, IsSwept, IsSettled};
+ghost use Rattle.consistent_solver.specs.Sweeps.{core_edge_values, IsSwept};
 
 use px_base::{CoreProgram, Items, Read, Value};
 use value_laws::EdgeRule;
+
+/// How many sweeps are made at most. The table of readers costs as much as 7 to 10 sweeps over a graph without order.
+const SWEEPS: usize = 12;
 
 /// The least of the vertex's own value and of all that it reads.
 fn lowered(core: &CoreProgram, values: &[Value], own: Value, row: &[Read]) -> Value
@@ -23,12 +26,13 @@ fn lowered(core: &CoreProgram, values: &[Value], own: Value, row: &[Read]) -> Va
 }
 
 /// One sweep: each vertex in rising order takes the least of its own value and of all that it reads, from the newest values.
-/// Says whether some value fell.
-fn sweep(core: &CoreProgram, rows: &[Items<Read>], values: &mut [Value]) -> bool
+/// Marks those whose value fell, and says whether there are any.
+fn sweep(core: &CoreProgram, rows: &[Items<Read>], values: &mut [Value], fell: &mut [bool]) -> bool
     requires rows { RowsFit (length rows.now) rows.now }
     requires values { IsValueList (length rows.now) values.old }
+    requires marks { length fell.old ≡ length rows.now }
     requires fold { IsFalse (is_mex core.now.program.fold) }
-    ensures { IsSwept core.now rows.now (length rows.now) values.old values.new result }
+    ensures { IsSwept core.now rows.now (length rows.now) values.old values.new fell.new result }
 {
     let mut changed = false;
     for (v, row) in rows.iter().enumerate() {
@@ -36,18 +40,34 @@ fn sweep(core: &CoreProgram, rows: &[Items<Read>], values: &mut [Value]) -> bool
         let least = lowered(core, values, own, row.as_slice());
         if least < own {
             values[v] = least;
+            fell[v] = true;
             changed = true;
+        } else {
+            fell[v] = false;
         }
     }
     changed
 }
 
-/// Sweeps until a sweep changes nothing. Every sweep but the last lowers the sum of the values.
-pub fn settle(core: &CoreProgram, rows: &[Items<Read>], values: &mut [Value])
+/// Sweeps until a sweep changes nothing, or until there were enough of them. Marks those whose value fell in the last one, and
+/// says whether there are any.
+pub fn sweep_some(
+    core: &CoreProgram,
+    rows: &[Items<Read>],
+    values: &mut [Value],
+    fell: &mut [bool],
+) -> bool
     requires rows { RowsFit (length rows.now) rows.now }
     requires values { IsValueList (length rows.now) values.old }
+    requires marks { length fell.old ≡ length rows.now }
+    requires all { All (λ mark. mark ≡ true) fell.old }
     requires fold { IsFalse (is_mex core.now.program.fold) }
-    ensures { IsSettled core.now rows.now values.old values.new }
+    ensures { IsSwept core.now rows.now (length rows.now) values.old values.new fell.new result }
 {
-    while sweep(core, rows, values) {}
+    for _turn in 0..SWEEPS {
+        if !sweep(core, rows, values, fell) {
+            return false;
+        }
+    }
+    true
 }

@@ -9,4 +9,4 @@ settle-requires-clause-values c = rw c.turn.ensures (turned_values c.core_form-c
 pub returns : goal.returns
 returns c =
     solved c.args.program.now c.args.rows.now c.args.values.now c.core_form-core.result c.turn.new.values c.settle.new.values c.turn-2.new.values c.requires.class c.requires.rows c.requires.starts
-    c.core_form-core.ensures c.turn.ensures c.settle.ensures c.turn-2.ensures
+    c.core_form-core.ensures c.turn.ensures c.in_ok-settle.ensures c.turn-2.ensures

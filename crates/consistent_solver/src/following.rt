@@ -1,0 +1,91 @@
+ghost use Rattle.std.specs.Prelude.{◌≡◌, ◌+◌, ◌<◌, ◌≤◌, All, IsFalse, OnOk, length, sum};
+ghost use Rattle.px_base.specs.Values.{IsValue, IsValueList};
+ghost use Rattle.px_base.specs.Classes.{is_mex};
+ghost use Rattle.px_base.specs.Graphs.{RowsFit};
+ghost use Rattle.consistent_solver.specs.Sweeps.{AreTold, HasTold, IsSettled, IsWaitingList};
+
+use crate::readers::{Reader, Readers};
+use crate::sweeps::sweep_some;
+use crate::waiting::Waiting;
+use px_base::{CoreProgram, Items, Memory, Read, Value};
+use std::alloc::Global;
+use value_laws::EdgeRule;
+
+/// Lowers each reader's value to what it reads, the edge value of `value`, where that is less. Those that fall wait.
+fn tell(
+    core: &CoreProgram,
+    value: Value,
+    readers: &[Reader],
+    values: &mut [Value],
+    waiting: &mut Waiting,
+) -> Result<(), Memory>
+    requires value { IsValue value }
+    requires readers { All (λ e. e.reader < length values.old) readers.now }
+    requires list { IsWaitingList (length values.old) waiting.old }
+    ensures told { OnOk result (HasTold core.now value readers.now (length readers.now) values.old values.new waiting.old.marks.items waiting.new.marks.items) }
+    ensures list { OnOk result (IsWaitingList (length values.old) waiting.new) }
+    ensures falls { OnOk result (sum values.new + length waiting.new.queue.items ≤ sum values.old + length waiting.old.queue.items) }
+{
+    for entry in readers {
+        let offered = core.value(value, u64::from(entry.weight));
+        if offered < values[entry.reader as usize] {
+            values[entry.reader as usize] = offered;
+            waiting.put(entry.reader)?;
+        }
+    }
+    Ok(())
+}
+
+/// Follows changes: the readers of the marked vertices are told of their values, those of all that fall by it are told in
+/// their turn, and so on until nobody waits.
+fn follow(
+    alloc: Global,
+    core: &CoreProgram,
+    n: u32,
+    rows: &[Items<Read>],
+    values: &mut [Value],
+    marks: Vec<bool>,
+) -> Result<(), Memory>
+    requires size { length rows.now ≡ n }
+    requires rows { RowsFit (length rows.now) rows.now }
+    requires values { IsValueList (length rows.now) values.old }
+    requires marks { length marks.items ≡ length rows.now }
+    requires told { AreTold core.now rows.now marks.items values.old }
+    requires fold { IsFalse (is_mex core.now.program.fold) }
+    ensures { OnOk result (IsSettled core.now rows.now values.old values.new) }
+{
+    let readers = Readers::new(alloc, n, rows)?;
+    let mut waiting = Waiting::of(alloc, marks)?;
+    while let Some(v) = waiting.take() {
+        tell(
+            core,
+            values[v as usize],
+            readers.of(v),
+            values,
+            &mut waiting,
+        )?;
+    }
+    Ok(())
+}
+
+/// Lowers values until each vertex has at most what it reads: by some sweeps, which is all where the vertices lie in a good
+/// order, and then by following the changes of the last sweep. Errors: want of memory.
+pub fn settle(
+    alloc: Global,
+    core: &CoreProgram,
+    n: u32,
+    rows: &[Items<Read>],
+    values: &mut [Value],
+) -> Result<(), Memory>
+    requires size { length rows.now ≡ n }
+    requires rows { RowsFit (length rows.now) rows.now }
+    requires values { IsValueList (length rows.now) values.old }
+    requires fold { IsFalse (is_mex core.now.program.fold) }
+    ensures { OnOk result (IsSettled core.now rows.now values.old values.new) }
+{
+    let mut fell = vec![in alloc; true; n as usize]?;
+    if sweep_some(core, rows, values, fell.as_mut_slice()) {
+        follow(alloc, core, n, rows, values, fell)?;
+    }
+    Ok(())
+}

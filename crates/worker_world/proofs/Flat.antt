@@ -1,5 +1,5 @@
 -- Rows one after another in one list.
-use Rattle.std.proofs.Common.{◌≡◌, ℕ, ◌+◌, ◌-◌, ◌<◌, ◌≤◌, ◌∙◌, List, [], ◌∷◌, ◌++◌, length, length-append, length-drop, take, drop, refl, sym, ap, inl, inr, arith}
+use Rattle.std.proofs.Common.{◌≡◌, ℕ, ◌+◌, ◌-◌, ◌<◌, ◌≤◌, ◌∙◌, List, [], ◌∷◌, ◌++◌, length, length-append, length-drop, take, drop, sym, ap, inl, inr, arith}
 use Rattle.std.specs.Prelude.{slice_index, slice_range}
 use Rattle.std.proofs.lemmas.Bool.{cases_lt}
 use Rattle.std.proofs.lemmas.List.{take-append-le, drop-append-le, take_all}
@@ -19,9 +19,6 @@ pub record AreCut (part : Part) (k : ℕ) (reads : List PlacedRead) (starts : Li
   pub count : length starts ≡ k + 1
   pub last : slice_index starts k ≡ length reads
   pub each : (j : ℕ) → j < k → IsRowAt reads starts j (placed_row part (row_at part.rows j))
-
-pub none_cut : (part : Part) → AreCut part 0 [] (0 ∷ [])
-none_cut part = record { count = refl; last = refl; each = λ j below. absurd (omega arith) }
 
 -- ---- one row more
 

@@ -1,5 +1,13 @@
+pub mod Changing
 pub mod Flat
+pub mod Halved
+pub mod Keeping
+pub mod Linked
 pub mod Placing
+pub mod Reaching
+pub mod Renewing
+pub mod Settling
 pub mod Stamping
 pub mod Taken
+pub mod Told
 pub mod Updates

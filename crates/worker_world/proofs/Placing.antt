@@ -1,7 +1,6 @@
 -- Values by place.
 use Rattle.std.proofs.Common.{◌≡◌, ℕ, zero, suc, ◌+◌, ◌-◌, ◌<◌, ◌≤◌, ◌^◌, Bool, true, false, List, [], ◌∷◌, ◌++◌, length, length-append, length-take, length-drop, get_or, take, drop, map, refl, sym, ap, subst, arith, ◌∙◌}
 use Rattle.std.specs.Prelude.{◌==◌, ◌||◌, All, slice_index, replicate, if◌then◌else◌, IsFalse, IsTrue}
-use Rattle.std.proofs.lemmas.Bool.Decides.{nat_tests}
 use Rattle.std.proofs.lemmas.List.{take-append-drop, get_or-take, get_or-drop, get_or-map, length-map, length-replicate}
 use Rattle.std.proofs.lemmas.List.Elements.{All-append, All-take}
 use Rattle.std.proofs.Math.Seq.{take-append_seam, drop-append_seam}
@@ -22,9 +21,10 @@ use Rattle.px_base.specs.declared.wire.Update.{Update}
 use Rattle.px_base.specs.Values.{IsValue, IsValueList}
 use Rattle.px_base.proofs.WorldsKeep.{updated_fit, new_world_fits}
 use Rattle.worker_world.specs.declared.places.PlacedRead.{PlacedRead}
-use Rattle.worker_world.specs.Placed.{master_count, place_in, placed_read, placed_row, placed_items, first_values, mirrors_after, masters_after}
+use Rattle.worker_world.specs.Placed.{master_count, place_in, placed_read, placed_row, placed_items, first_values, mirrors_after}
 use Rattle.px_base.proofs.Listed.{rises_from_zero}
 use Rattle.px_base.proofs.Positions.{length_by_position}
+use Rattle.px_base.proofs.Ranges.{within_bounds}
 
 -- a part that fits has at most as many mirrors as there are vertices
 pub mirror_count : (part : Part) → PartFits part → length part.mirrors ≤ 2 ^ 22
@@ -37,9 +37,6 @@ mirror_count part fits = by_count (length part.mirrors) refl
         omega (arith, rises_from_zero part.mirrors fits.mirrors_rise n last, (fits.mirrors_outside n 0 last).0)
 
 -- ---- one read
-
-within_bounds : (low high u : ℕ) → is_within low high u ≡ true → (low ≤ u) × (u < high)
-within_bounds low high u is = (grind (arith, nat_tests), grind (arith, nat_tests))
 
 -- the value at its place is the one known of it
 pub value_at_place : (part : Part) (values : List ℕ) (u : ℕ) →
@@ -107,9 +104,6 @@ renewed_by_place part core values k pulled fits inside is =
     let first : k < master_count part = omega (arith, inside, fits.rows) in
     rw (is, gathered_is part core values (slice_index part.starts k) (row_at part.rows k), get_or-take (master_count part) values k 0 first) refl
 
-pub placed_length : (part : Part) (row : List Read) → length (placed_row part row) ≡ length row
-placed_length part row = length-map row (placed_read part)
-
 -- ---- all values
 
 pub take_first : (m : ℕ) (first rest : List ℕ) → length first ≡ m → take m (first ++ rest) ≡ first
@@ -153,20 +147,6 @@ renewed_halves part core masters mirrors before after fits count is =
     (length_by_position (length part.rows) (λ k. renewed_value core (slice_index masters k) (master_pull part core masters mirrors k)) ∙ fits.rows)
     (second_half part before count)
     is
-
--- after both
-pub noted_halves : (part : Part) (core : CoreProgram) (updates : List Update) (before after seen next new : List ℕ) → PartFits part → length before ≡ master_count part + length part.mirrors →
-    length next ≡ master_count part + length part.mirrors → after ≡ take (master_count part) before ++ mirrors_after part updates before → seen ≡ after →
-    new ≡ renewed_masters part core (take (master_count part) seen) (drop (master_count part) seen) ++ drop (master_count part) next →
-    HasHalves part (masters_after part core updates before) (drop (master_count part) next) new
-noted_halves part core updates before after seen next new fits count size put same renewed =
-    let old : HasHalves part (take (master_count part) before) (mirrors_after part updates before) after = put_halves part updates before after count put in
-    renewed_halves part core (take (master_count part) before) (mirrors_after part updates before) next new fits size (rw (same, old.masters, old.mirrors) at renewed)
-
--- after updates were taken back
-pub taken_halves : (part : Part) (masters mirrors after : List ℕ) → length masters ≡ master_count part + length part.mirrors → length mirrors ≡ master_count part + length part.mirrors →
-    after ≡ take (master_count part) masters ++ drop (master_count part) mirrors → HasHalves part (take (master_count part) masters) (drop (master_count part) mirrors) after
-taken_halves part masters mirrors after first rest is = halves part (take (master_count part) masters) (drop (master_count part) mirrors) after (first_half part masters first) (second_half part mirrors rest) is
 
 pub updated_values : (part : Part) (updates : List Update) (before : List ℕ) → length before ≡ master_count part + length part.mirrors → CarriesValues updates → All IsValue before →
     All IsValue (take (master_count part) before ++ mirrors_after part updates before)

@@ -1,10 +1,8 @@
 -- Numbers stamped in a table, and the least one that isn't.
-use Rattle.std.proofs.Common.{◌≡◌, ℕ, zero, suc, ◌+◌, ◌<◌, ◌≤◌, ◌≢◌, ◌∙◌, Bool, true, false, List, [], ◌∷◌, length, get_or, take, refl, sym, ap, inl, inr, arith, set, get_or-set_other, get_or-set_same, eq-eqb}
-use Rattle.std.specs.Prelude.{◌==◌, ◌||◌, All, slice_index}
-use Rattle.std.proofs.lemmas.Bool.Decides.{eqb_tells}
+use Rattle.std.proofs.Common.{◌≡◌, ℕ, zero, suc, ◌+◌, ◌<◌, ◌≤◌, ◌≢◌, ◌∙◌, true, false, List, length, get_or, refl, sym, inl, inr, arith, eq-eqb}
+use Rattle.std.specs.Prelude.{slice_index}
 use Rattle.std.proofs.lemmas.Bool.{cases_lt}
-use Rattle.std.proofs.lemmas.List.{map_more, length-map}
-use Rattle.std.proofs.lemmas.List.Folds.{list_any-append}
+use Rattle.std.proofs.lemmas.List.{length-map}
 use Rattle.px_base.specs.declared.program.CoreProgram.{CoreProgram}
 use Rattle.px_base.specs.Values.{is_listed}
 use Rattle.px_base.specs.Core.{core_edge_value}
@@ -13,44 +11,6 @@ use Rattle.px_base.proofs.Listed.{not_equal}
 use Rattle.worker_world.specs.declared.places.PlacedRead.{PlacedRead}
 use Rattle.worker_world.specs.Placed.{placed_items}
 use Rattle.worker_world.specs.Stamped.{IsStamped}
-
-or_true : (b : Bool) → (b || true) ≡ true
-or_true true = refl
-or_true false = refl
-
-or_false : (b : Bool) → (b || false) ≡ b
-or_false true = refl
-or_false false = refl
-
--- ---- one number more
-
--- the stamp at a number that the table has a place for
-pub one_put : (marks : List ℕ) (stamp item k : ℕ) → item < length marks → (get_or (set marks item stamp) k 0 == stamp) ≡ (get_or marks k 0 == stamp || item == k)
-one_put marks stamp item k inside = elim (eqb_tells item k) [
-  | inl (t, same) ↦ rw (t, ← same, get_or-set_same marks item stamp 0 inside) (eq-eqb stamp stamp refl ∙ sym (or_true (get_or marks item 0 == stamp)))
-  | inr (t, apart) ↦ (let other : k ≢ item = λ e. apart (sym e) in rw (t, get_or-set_other marks item k stamp 0 other) (sym (or_false (get_or marks k 0 == stamp))))
-]
-
--- at another number
-pub none_put : (marks : List ℕ) (stamp item k : ℕ) → length marks ≤ item → k < length marks → (get_or marks k 0 == stamp) ≡ (get_or marks k 0 == stamp || item == k)
-none_put marks stamp item k past below = let other : (item == k) ≡ false = not_equal item k (λ e. absurd (omega (arith, e))) in rw other (sym (or_false (get_or marks k 0 == stamp)))
-
--- ---- a row
-
-none_listed : (stamp : ℕ) (marks : List ℕ) → All (λ mark. mark < stamp) marks → IsStamped stamp [] marks
-none_listed stamp marks unused = λ k below. not_equal (get_or marks k 0) stamp (λ e. absurd (omega (arith, unused k 0 below, e)))
-
-pub none_stamped : (core : CoreProgram) (values : List ℕ) (row : List PlacedRead) (stamp : ℕ) (marks : List ℕ) → All (λ mark. mark < stamp) marks → IsStamped stamp (placed_items core values (take 0 row)) marks
-none_stamped core values row stamp marks unused = none_listed stamp marks unused
-
--- one read more
-pub listed_more : (core : CoreProgram) (values : List ℕ) (row : List PlacedRead) (i k : ℕ) (d : PlacedRead) → i < length row →
-    is_listed (placed_items core values (take (i + 1) row)) k ≡ (is_listed (placed_items core values (take i row)) k || core_edge_value core (slice_index values (get_or row i d).place) (get_or row i d).weight == k)
-listed_more core values row i k d below =
-    let item : PlacedRead → ℕ = λ r. core_edge_value core (slice_index values r.place) r.weight in
-    ap (λ items. is_listed items k) (map_more item row i d below)
-    ∙ list_any-append (λ x. x == k) (placed_items core values (take i row)) (item (get_or row i d) ∷ [])
-    ∙ ap (λ b. is_listed (placed_items core values (take i row)) k || b) (or_false (item (get_or row i d) == k))
 
 -- ---- the least absent number
 

@@ -40,11 +40,13 @@ put_in_force part core updates before noted after level is put =
     record { count = made.count; masters = made.masters ∙ is.next; mirrors = made.mirrors ∙ rest }
 
 pub still_by_place : (part : Part) (core : CoreProgram) (noted after : Known) → IsByPlace part core noted → HasSameTables noted after → length after.values.items ≡ master_count part + length part.mirrors →
-    after.next.items ≡ noted.values.items → IsByPlace part core after
+    length after.next.items ≡ length after.values.items → IsByPlace part core after
 still_by_place part core noted after placed same count next = record {
   rows = rw same.rows placed.rows;
+  readers = rw same.readers placed.readers;
   table = rw same.table placed.table;
   values = count;
-  next = ap length next ∙ placed.values;
+  next = next ∙ count;
+  marks = same.marks ∙ placed.marks;
   stamps = rw same.stamps placed.stamps;
 }

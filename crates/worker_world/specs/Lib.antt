@@ -1,6 +1,9 @@
 pub mod ByPlace
+pub mod Due
 pub mod Kept
 pub mod Kinds
 pub mod Placed
+pub mod Readers
 pub mod Stamped
 pub mod Views
+pub mod Waiting

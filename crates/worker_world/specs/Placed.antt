@@ -5,10 +5,11 @@ use Rattle.px_base.specs.declared.graph.Read.{Read}
 use Rattle.px_base.specs.declared.program.CoreProgram.{CoreProgram}
 use Rattle.px_base.specs.Values.{place_of}
 use Rattle.px_base.specs.Classes.{keeps}
-use Rattle.px_base.specs.Core.{core_edge_value}
+use Rattle.px_base.specs.Core.{core_edge_value, core_gather}
+use Rattle.px_base.specs.Graphs.{row_at}
 use Rattle.px_base.specs.Parts.{is_within}
 use Rattle.px_base.specs.declared.wire.Update.{Update}
-use Rattle.px_base.specs.ValueSteps.{updated_mirrors, renewed_masters}
+use Rattle.px_base.specs.ValueSteps.{updated_mirrors, renewed_value, renewed_masters}
 use Rattle.worker_world.specs.declared.places.PlacedRead.{PlacedRead}
 
 -- how many masters the part has
@@ -33,6 +34,13 @@ read_items rule values row = map (λ r. rule (slice_index values r.place) r.weig
 -- the core edge values of a row
 abbrev pub placed_items : CoreProgram → List ℕ → List PlacedRead → List ℕ
 placed_items core values row = read_items (core_edge_value core) values row
+
+-- what the k-th master gathers, and its new value, where the list has the values of all masters and mirrors
+abbrev pub pulled_at : Part → CoreProgram → List ℕ → ℕ → ℕ
+pulled_at part core values k = core_gather core (slice_index part.starts k) (placed_items core values (placed_row part (row_at part.rows k)))
+
+abbrev pub renewed_at : Part → CoreProgram → List ℕ → ℕ → ℕ
+renewed_at part core values k = renewed_value core (slice_index values k) (pulled_at part core values k)
 
 -- what each master or mirror has in a new world that has these start values
 abbrev pub first_values : CoreProgram → List ℕ → List ℕ

@@ -2,13 +2,16 @@
 //! keep.
 #![tactic(auto)]
 
+mod due;
 mod flat_rows;
 mod known;
 mod places;
 mod pulls;
 mod read_rules;
+mod readers;
 mod stamps;
 mod steps;
+mod telling;
 mod value_world;
 mod world;
 

@@ -1,9 +1,9 @@
-ghost use Rattle.std.specs.Prelude.{◌≡◌, ◌<◌, ◌≤◌, ◌+◌, ◌++◌, All, IsTrue, IsFalse, length, take, drop};
-ghost use Rattle.px_base.specs.Values.{IsValue};
+ghost use Rattle.std.specs.Prelude.{◌≡◌, ◌<◌, ◌≤◌, ◌+◌, ◌++◌, ℕ, true, false, All, IsTrue, IsFalse, length, slice_index, take, drop};
+ghost use Rattle.px_base.specs.Values.{IsValue, is_listed};
 ghost use Rattle.px_base.specs.Classes.{is_mex};
 ghost use Rattle.px_base.specs.Parts.{PartFits};
 ghost use Rattle.px_base.specs.ValueSteps.{renewed_value, renewed_masters};
-ghost use Rattle.worker_world.specs.Placed.{master_count};
+ghost use Rattle.worker_world.specs.Placed.{master_count, renewed_at};
 ghost use Rattle.worker_world.specs.ByPlace.{AreRowsOf};
 
 use crate::flat_rows::FlatRows;
@@ -127,4 +127,59 @@ pub fn renew_masters(
     ensures stamps { length stamps.new.marks.items ≡ length stamps.old.marks.items }
 {
     write_masters(part, core, rows, values, stamps, next.as_mut_slice());
+}
+
+/// The new value of one master, from the values of all masters and mirrors.
+fn renewed_one(
+    part: &Part,
+    core: &CoreProgram,
+    rows: &FlatRows,
+    values: &[Value],
+    stamps: &mut Stamps,
+    k: usize,
+) -> Value
+    requires fits { PartFits part.now }
+    requires rows { AreRowsOf part.now rows.now }
+    requires count { length values.now ≡ master_count part.now + length part.now.mirrors }
+    requires values { All IsValue values.now }
+    requires k { k < master_count part.now }
+    requires stamps { IsTrue (is_mex core.now.program.fold) → All (λ row. length row ≤ length stamps.old.marks.items) part.now.rows }
+    ensures renewed { result ≡ renewed_at part.now core.now values.now k }
+    ensures stamps { length stamps.new.marks.items ≡ length stamps.old.marks.items }
+{
+    let row = rows.row(k);
+    let pulled = if is_mex(core.program.fold) {
+        stamps.mex(core, values, row)
+    } else {
+        least_of_row(core, values, part.starts.as_slice()[k], row)
+    };
+    renewed_value(core, values[k], pulled)
+}
+
+/// Renews the listed masters in a list of the values of masters and mirrors.
+pub fn renew_listed(
+    part: &Part,
+    core: &CoreProgram,
+    rows: &FlatRows,
+    values: &[Value],
+    masters: &[u32],
+    stamps: &mut Stamps,
+    next: &mut Vec<Value>,
+)
+    requires fits { PartFits part.now }
+    requires rows { AreRowsOf part.now rows.now }
+    requires count { length values.now ≡ master_count part.now + length part.now.mirrors }
+    requires values { All IsValue values.now }
+    requires masters { All (λ k. k < master_count part.now) masters.now }
+    requires next { length next.old.items ≡ master_count part.now + length part.now.mirrors }
+    requires stamps { IsTrue (is_mex core.now.program.fold) → All (λ row. length row ≤ length stamps.old.marks.items) part.now.rows }
+    ensures renewed { (k : ℕ) → is_listed masters.now k ≡ true → slice_index next.new.items k ≡ renewed_at part.now core.now values.now k }
+    ensures kept { (k : ℕ) → is_listed masters.now k ≡ false → slice_index next.new.items k ≡ slice_index next.old.items k }
+    ensures size { length next.new.items ≡ length next.old.items }
+    ensures stamps { length stamps.new.marks.items ≡ length stamps.old.marks.items }
+{
+    for master in masters {
+        let k = *master as usize;
+        next[k] = renewed_one(part, core, rows, values, stamps, k);
+    }
 }

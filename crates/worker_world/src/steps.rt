@@ -1,5 +1,6 @@
-ghost use Rattle.std.specs.Prelude.{◌≡◌, ◌++◌, ◌≤◌, ◌+◌, ◌-◌, ◌||◌, All, IfOk, IsTrue, length, take, drop};
+ghost use Rattle.std.specs.Prelude.{◌≡◌, ◌++◌, ◌<◌, ◌≤◌, ◌+◌, ◌-◌, ◌||◌, All, IfOk, IsTrue, length, take, drop};
 ghost use Rattle.std.specs.List.Sorted.{IsStrictlyIncreasing};
+ghost use Rattle.std.specs.List.{list_any};
 ghost use Rattle.px_base.specs.Values.{is_listed};
 ghost use Rattle.px_base.specs.Parts.{PartFits, is_within};
 ghost use Rattle.px_base.specs.ValueSteps.{announcements, has_changed, some_changed, updated_mirrors};
@@ -127,6 +128,35 @@ pub fn some_changed(before: &[Value], after: &[Value]) -> bool
     ensures { result ≡ some_changed before.now after.now }
 {
     (0..after.len()).any(|k| before[k] != after[k])
+}
+
+/// Whether one of these masters has.
+pub fn some_listed_changed(masters: &[u32], before: &[Value], after: &[Value]) -> bool
+    requires before { All (λ k. k < length before.now) masters.now }
+    requires after { All (λ k. k < length after.now) masters.now }
+    ensures { result ≡ list_any (has_changed before.now after.now) masters.now }
+{
+    masters
+        .iter()
+        .any(|k| before[*k as usize] != after[*k as usize])
+}
+
+/// Whether so many masters have another value than before that all should be renewed in the next step. Either is right, so no
+/// clause says which.
+pub fn many_changed(before: &[Value], after: &[Value]) -> bool
+    requires { length before.now ≡ length after.now }
+{
+    let most = after.len() / 64;
+    let mut count = 0;
+    for k in 0..after.len() {
+        if before[k] != after[k] {
+            if count == most {
+                return true;
+            }
+            count += 1;
+        }
+    }
+    false
 }
 
 /// Whether a master of the boundary is announced.

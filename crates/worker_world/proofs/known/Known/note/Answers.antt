@@ -1,57 +1,32 @@
-use Rattle.std.proofs.Common.{arith, ◌∙◌, length, length-take, drop, ap}
-use Rattle.worker_world.specs.Placed.{master_count, masters_after}
-use Rattle.worker_world.proofs.Placing.{HasHalves, put_halves, noted_halves, updated_values}
+use Rattle.std.proofs.Common.{◌∙◌, take}
+use Rattle.worker_world.specs.Placed.{master_count, mirrors_after}
+use Rattle.worker_world.proofs.Placing.{HasHalves, put_halves, updated_values}
+use Rattle.worker_world.proofs.Keeping.{settled_updated}
 use Rattle.worker_world.proofs.known.Known.note.Goals as goal
 
-pub renew_masters-requires-clause-count : goal.renew_masters-requires-clause-count
-renew_masters-requires-clause-count c =
-    ap length c.as_slice.ensures.value ∙ (put_halves c.args.part.now c.args.updates.now c.args.self.now.values.items c.put_updates.new.values.items c.requires.placed.values c.put_updates.ensures).count
+-- the values after the updates
+updated : (c : goal.After-renew-arg-1) → HasHalves c.args.part.now (take (master_count c.args.part.now) c.args.self.now.values.items) (mirrors_after c.args.part.now c.args.updates.now c.args.self.now.values.items) c.update.new.self.values.items
+updated c = put_halves c.args.part.now c.args.updates.now c.args.self.now.values.items c.update.new.self.values.items c.requires.placed.values c.update.ensures.values
 
-pub renew_masters-requires-clause-values : goal.renew_masters-requires-clause-values
-renew_masters-requires-clause-values c =
-    rw (c.as_slice.ensures.value, c.put_updates.ensures) (updated_values c.args.part.now c.args.updates.now c.args.self.now.values.items c.requires.placed.values c.requires.carried c.requires.values)
-
--- the next values after the renewal
-renewed : (c : goal.After-deref-2) →
-    HasHalves c.args.part.now (masters_after c.args.part.now c.args.core.now c.args.updates.now c.args.self.now.values.items) (drop (master_count c.args.part.now) c.args.self.now.next.items) c.renew_masters.new.next.items
-renewed c =
-    noted_halves c.args.part.now c.args.core.now c.args.updates.now c.args.self.now.values.items c.put_updates.new.values.items c.as_slice.result.now c.args.self.now.next.items c.renew_masters.new.next.items c.requires.fits
-    c.requires.placed.values c.requires.placed.next c.put_updates.ensures c.as_slice.ensures.value c.renew_masters.ensures.renewed
-
-pub slice_bounds-some_changed-end-2 : goal.slice_bounds-some_changed-end-2
-slice_bounds-some_changed-end-2 c =
-    rw (c.deref-2.ensures.value, c.master_count-count.ensures) (omega (arith, length-take (master_count c.args.part.now) c.renew_masters.new.next.items, (renewed c).count))
-
-pub some_changed-requires : goal.some_changed-requires
-some_changed-requires c =
-    let old = put_halves c.args.part.now c.args.updates.now c.args.self.now.values.items c.put_updates.new.values.items c.requires.placed.values c.put_updates.ensures in
-    rw (c.deref.ensures.value, c.deref-2.ensures.value, c.master_count-count.ensures)
-    (omega (arith, length-take (master_count c.args.part.now) c.put_updates.new.values.items, length-take (master_count c.args.part.now) c.renew_masters.new.next.items, (renewed c).count, old.count))
-
-pub returns-clause-noted : goal.returns-clause-noted
-returns-clause-noted c =
-    let part = c.args.part.now in
-    let old = put_halves part c.args.updates.now c.args.self.now.values.items c.put_updates.new.values.items c.requires.placed.values c.put_updates.ensures in
-    let new = noted_halves part c.args.core.now c.args.updates.now c.args.self.now.values.items c.put_updates.new.values.items c.as_slice.result.now c.args.self.now.next.items c.renew_masters.new.next.items c.requires.fits
-    c.requires.placed.values c.requires.placed.next c.put_updates.ensures c.as_slice.ensures.value c.renew_masters.ensures.renewed in
+pub renew-requires-clause-placed : goal.renew-requires-clause-placed
+renew-requires-clause-placed c =
+    let tables = c.update.ensures.tables in
     record {
-      placed = record {
-        rows = c.requires.placed.rows;
-        table = c.requires.placed.table;
-        values = old.count;
-        next = new.count;
-        stamps = rw c.renew_masters.ensures.stamps c.requires.placed.stamps;
-      };
-      masters = old.masters;
-      mirrors = old.mirrors;
-      next = new.masters;
-      kept = new.mirrors;
+      rows = rw tables.rows c.requires.placed.rows;
+      readers = rw tables.readers c.requires.placed.readers;
+      table = rw tables.table c.requires.placed.table;
+      values = (updated c).count;
+      next = rw c.update.ensures.next c.requires.placed.next;
+      marks = tables.marks ∙ c.requires.placed.marks;
+      stamps = rw tables.stamps c.requires.placed.stamps;
     }
 
-pub returns-clause-changed : goal.returns-clause-changed
-returns-clause-changed c =
-    let part = c.args.part.now in
-    let old = put_halves part c.args.updates.now c.args.self.now.values.items c.put_updates.new.values.items c.requires.placed.values c.put_updates.ensures in
-    let new = noted_halves part c.args.core.now c.args.updates.now c.args.self.now.values.items c.put_updates.new.values.items c.as_slice.result.now c.args.self.now.next.items c.renew_masters.new.next.items c.requires.fits
-    c.requires.placed.values c.requires.placed.next c.put_updates.ensures c.as_slice.ensures.value c.renew_masters.ensures.renewed in
-    rw (c.deref.ensures.value, c.deref-2.ensures.value, c.master_count-count.ensures, old.masters, new.masters) at c.some_changed.ensures
+pub renew-requires-clause-settled : goal.renew-requires-clause-settled
+renew-requires-clause-settled c = record {
+  level = λ off. rw (c.update.ensures.next, (updated c).masters) (c.requires.settled.level (c.update.ensures.stays.all off));
+  each = λ k inside not. settled_updated c.args.part.now c.args.core.now c.args.self.now.readers c.update.new.self.due c.args.self.now.values.items c.update.new.self.values.items k c.requires.fits inside c.requires.placed.readers
+      c.update.ensures.told (updated c).masters not (c.requires.settled.each k inside (c.update.ensures.stays.kept k not));
+}
+
+pub renew-requires-clause-values : goal.renew-requires-clause-values
+renew-requires-clause-values c = rw c.update.ensures.values (updated_values c.args.part.now c.args.updates.now c.args.self.now.values.items c.requires.placed.values c.requires.carried c.requires.values)

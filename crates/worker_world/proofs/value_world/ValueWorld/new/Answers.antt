@@ -1,4 +1,6 @@
-use Rattle.std.proofs.Common.{◌∙◌, ap, sym, drop}
+use Rattle.std.proofs.Common.{◌≡◌, ◌∙◌, true, false, ap, sym, drop}
+use Rattle.std.specs.Prelude.{◌||◌, slice_index_or}
+use Rattle.worker_world.specs.Due.{is_due}
 use Rattle.worker_world.specs.Placed.{master_count}
 use Rattle.px_base.specs.Worlds.{of_values}
 use Rattle.worker_world.proofs.Placing.{fresh_is_new, fresh_keeps, value_kind}
@@ -9,6 +11,10 @@ invariant_of-result c = record {
   world = fresh_keeps c.args.part c.args.core c.in_ok-known.known.values.items c.requires.fits c.requires.weights c.requires.reads c.in_ok-known.ensures.values;
   placed = c.in_ok-known.ensures.placed;
   level = ap (drop (master_count c.args.part)) c.in_ok-known.ensures.next;
+  settled = record {
+    level = λ off. (let on : c.in_ok-known.known.due.all ≡ true = c.in_ok-known.ensures.due in cc);
+    each = λ k inside not. (let on : is_due c.in_ok-known.known.due k ≡ true = ap (λ b. b || slice_index_or c.in_ok-known.known.due.marked.items k false) c.in_ok-known.ensures.due in cc);
+  };
   chunks = c.requires.chunks;
 }
 

@@ -1,8 +1,9 @@
-use Rattle.std.proofs.Common.{rules, arith, ◌∙◌, length, take, drop, ap, sym}
+use Rattle.std.proofs.Common.{rules, arith, ◌≡◌, ◌∙◌, length, take, drop, ap, sym}
 use Rattle.px_base.proofs.WorldsKeep.{updated_fit, renewed_fit}
 use Rattle.px_base.specs.ValueSteps.{announcements}
 use Rattle.px_base.specs.Worlds.{is_fresh}
 use Rattle.worker_world.proofs.Placing.{all_in_both}
+use Rattle.worker_world.proofs.Keeping.{settled_stepped}
 use Rattle.worker_world.proofs.Taken.{step_made, put_in_force, still_by_place}
 use Rattle.worker_world.specs.Placed.{master_count, mirrors_after}
 use Rattle.worker_world.specs.Views.{values_of}
@@ -18,6 +19,7 @@ invariant_of-self-2 c =
     let before = c.self.inside.known.values.items in
     let noted = c.note-changed.ensures.noted in
     let made = put_in_force part core c.args.updates.now c.self.inside.known c.note-changed.new.self c.commit.new.self c.self.invariant.level noted c.commit.ensures.values in
+    let mirrors : drop (master_count part) c.commit.new.self.values.items ≡ drop (master_count part) c.note-changed.new.self.values.items = made.mirrors ∙ sym noted.mirrors in
     record {
       world = record {
         fits = record {
@@ -28,8 +30,13 @@ invariant_of-self-2 c =
         };
         reads = c.self.invariant.world.reads;
       };
-      placed = still_by_place part core c.note-changed.new.self c.commit.new.self noted.placed c.commit.ensures.tables made.count c.commit.ensures.next;
-      level = ap (drop (master_count part)) c.commit.ensures.next ∙ noted.mirrors ∙ sym made.mirrors;
+      placed = still_by_place part core c.note-changed.new.self c.commit.new.self noted.placed c.commit.ensures.tables made.count c.commit.ensures.size;
+      level = c.commit.ensures.next;
+      settled = record {
+        level = λ off. ap (take (master_count part)) (c.commit.ensures.level off);
+        each = λ k inside not. settled_stepped part core c.note-changed.new.self.readers c.commit.new.self.due c.note-changed.new.self.values.items c.commit.new.self.values.items k c.self.invariant.world.fits.part inside noted.placed.readers
+            c.commit.ensures.told mirrors (rw (noted.masters, noted.mirrors) made.masters) not;
+      };
       chunks = c.self.invariant.chunks;
     }
 

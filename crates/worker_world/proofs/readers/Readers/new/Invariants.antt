@@ -1,0 +1,12 @@
+use Rattle.std.proofs.Common.{ℕ, ◌+◌, ◌<◌, length}
+use Rattle.px_base.specs.Graphs.{row_at}
+use Rattle.worker_world.specs.Placed.{master_count, placed_row}
+use Rattle.worker_world.specs.Readers.{IsLinked, ReadsRow}
+use Rattle.worker_world.proofs.readers.Readers.new.Given as goal
+
+-- each master so far is a reader of what its row reads
+abbrev pub invariant-loop-k : goal.invariant-loop-k
+invariant-loop-k l = record {
+  linked : IsLinked (master_count l.part + length l.part.mirrors) (master_count l.part) l.readers;
+  each : (j : ℕ) → j < l.k → ReadsRow l.readers j (placed_row l.part (row_at l.part.rows j));
+}

@@ -1,32 +1,11 @@
 -- A worker that is served, and the statuses of its ends.
-use Rattle.std.proofs.Common.{◌≡◌, ℕ, List, [], refl, sym, inl, ap, ◌∙◌, arith}
-use Rattle.std.specs.Prelude.{◌≢◌, Option, Some, None}
-use Rattle.std.specs.Io.KnownBytes.{Appends}
-use Rattle.std.proofs.lemmas.List.{append-nil}
-use Rattle.command_texts.proofs.Solved.{takes_none}
+use Rattle.std.proofs.Common.{◌≡◌, refl, sym, ap, ◌∙◌, arith}
+use Rattle.std.specs.Prelude.{◌≢◌}
 use Rattle.worker_serve.specs.declared.end.ServeEnd.{ServeEnd}
 use Rattle.worker_serve.specs.declared.end.ServeEnd.TheVariants as end
-use Rattle.worker_serve.specs.Talks.{IsPartly}
-use Rattle.worker_serve.specs.Streams.{IsServed}
 use Rattle.phoenix_cli.specs.Calls.{Outcome, outcome_of, status_of}
 
--- ---- memory was wanting at once
-
-appends_none : (old : Option (List ℕ)) → Appends old old []
-appends_none None = tt
-appends_none (Some bytes) = sym (append-nil bytes)
-
-takes_no_frame : IsPartly [] []
-takes_no_frame = record {
-  frames = [];
-  rest = [];
-  begins = record { fit = λ k d below. absurd (omega (arith, below)); front = refl; answers = []; taken = inl (refl, refl); told_is = refl };
-}
-
-pub serves_nothing : (left old : Option (List ℕ)) → IsServed left left old old end.Memory
-serves_nothing left old = record { bytes = []; taken = takes_none left; told = []; written = appends_none old; ends = record { more = []; partly = takes_no_frame } }
-
--- ---- only a fault of the source is 6, and only one of the sink 7
+-- ---- only a fault of the source is 6, only one of the sink 7, and want of memory is 11
 
 six : (why : ServeEnd) → status_of (outcome_of why) ≡ 6 → why ≡ end.ReadFault
 six end.End e = absurd (omega (arith, e))
@@ -59,3 +38,6 @@ no_read_failed why outcome is other e = other (ap status_of is ∙ ap (λ w. sta
 
 pub no_write_failed : (why : ServeEnd) (outcome : Outcome) → outcome ≡ outcome_of why → status_of outcome ≢ 7 → why ≢ end.WriteFault
 no_write_failed why outcome is other e = other (ap status_of is ∙ ap (λ w. status_of (outcome_of w)) e)
+
+pub no_want : (why : ServeEnd) (outcome : Outcome) → outcome ≡ outcome_of why → status_of outcome ≢ 11 → why ≢ end.Memory
+no_want why outcome is other e = other (ap status_of is ∙ ap (λ w. status_of (outcome_of w)) e)

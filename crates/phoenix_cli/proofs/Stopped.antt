@@ -12,10 +12,11 @@ use Rattle.command_texts.specs.declared.job.Plan.TheVariants as plan
 use Rattle.command_texts.specs.Plans.{plan_of}
 use Rattle.command_texts.specs.Endings.{Ending, stopped, ending_of}
 use Rattle.command_texts.specs.Solutions.{IsSolution, is_decided}
-use Rattle.command_texts.proofs.Solved.{bytes_of, takes_none, told_of}
+use Rattle.px_io.proofs.Known.{consumes_none}
+use Rattle.command_texts.proofs.Solved.{bytes_of, told_of}
 use Rattle.worker_serve.specs.declared.end.ServeEnd.TheVariants as end
+use Rattle.worker_serve.proofs.Passing.{wants_at_once}
 use Rattle.phoenix_cli.specs.Calls.{Ends, IsRunOf, IsTextRun, Outcome}
-use Rattle.phoenix_cli.proofs.Served.{serves_nothing}
 
 keeps_all : (old : Option (List ℕ)) → Keeps old old
 keeps_all None = tt
@@ -58,7 +59,7 @@ text_stops why left old decided = record {
   ends = no_text_ends (stopped why) why old (no_write_fault why decided) (λ _. refl);
   ended = λ h k. absurd (let no : false ≡ true = h in cc);
   taken = [];
-  lost = takes_none left;
+  lost = consumes_none left;
   met = λ h. absurd (no_read_fault why decided h);
 }
 
@@ -86,7 +87,7 @@ text_wants this left old = record {
   ends = inl (keeps_all old);
   ended = λ h k. absurd (let no : false ≡ true = h in cc);
   taken = [];
-  lost = takes_none left;
+  lost = consumes_none left;
   met = λ h. absurd (cc);
 }
 
@@ -94,7 +95,7 @@ text_wants this left old = record {
 pub memory_stops : (plan : Result Plan Stop) (left old : Option (List ℕ)) → IsRunOf plan (Err stop.Memory) left left old old
 memory_stops (Err why) left old = text_wants (Err why) left old
 memory_stops (Ok (plan.Write this)) left old = text_wants (Ok this) left old
-memory_stops (Ok plan.Serve) left old = record { why = end.Memory; is = refl; served = serves_nothing left old }
+memory_stops (Ok plan.Serve) left old = record { why = end.Memory; is = refl; served = wants_at_once left old }
 
 -- what follows of a plan that is a stop
 pub stops_as : (plan : Result Plan Stop) (why : Stop) (outcome : Outcome) → plan ≡ Err why → IfErr plan (λ w. outcome ≡ Err w) → outcome ≡ Err why

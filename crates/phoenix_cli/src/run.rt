@@ -34,6 +34,7 @@ fn write_text<R: Threads + Sync, S: Source, K: Sink>(
     ensures untouched { status_of result ≢ 0 → status_of result ≢ 7 → status_of result ≢ 11 → sink.new ≡ sink.old }
     ensures source_later { S.faults source.old ≤ S.faults source.new }
     ensures sink_later { K.faults sink.old ≤ K.faults sink.new }
+    ensures spared { status_of result ≢ 11 → K.wants sink.new ≡ K.wants sink.old }
     ensures sink_wants_later { K.wants sink.old ≤ K.wants sink.new }
 {
     let text = match job_text(rt, alloc, job, source) {
@@ -68,6 +69,7 @@ fn follow<R: Threads + Sync, S: Source, K: Sink>(
     ensures untouched { serves_frames plan ≡ false → status_of result ≢ 0 → status_of result ≢ 7 → status_of result ≢ 11 → sink.new ≡ sink.old }
     ensures source_later { S.faults source.old ≤ S.faults source.new }
     ensures sink_later { K.faults sink.old ≤ K.faults sink.new }
+    ensures spared { status_of result ≢ 11 → K.wants sink.new ≡ K.wants sink.old }
     ensures sink_wants_later { K.wants sink.old ≤ K.wants sink.new }
 {
     match plan {
@@ -97,6 +99,7 @@ fn perform<R: Threads + Sync, S: Source, K: Sink>(
     ensures untouched { serves_frames (plan_of (command_of words.now)) ≡ false → status_of result ≢ 0 → status_of result ≢ 7 → status_of result ≢ 11 → sink.new ≡ sink.old }
     ensures source_later { S.faults source.old ≤ S.faults source.new }
     ensures sink_later { K.faults sink.old ≤ K.faults sink.new }
+    ensures spared { status_of result ≢ 11 → K.wants sink.new ≡ K.wants sink.old }
     ensures sink_wants_later { K.wants sink.old ≤ K.wants sink.new }
 {
     match read_command(alloc, words) {
@@ -142,7 +145,7 @@ pub fn phoenix<R: Threads + Sync, S: Source, K: Sink, F: Sink>(
     ensures silent { result ≡ 0 → faults.new ≡ faults.old }
 
     // 6 and 7: the source, which the plan reads, or the sink failed in this call. Where one of them failed no other status
-    // comes. No count falls.
+    // comes, and where the sink wanted memory none but 11. No count falls.
     ensures reads { result ≡ 6 → plan_reads (plan_of (command_of words.now)) ≡ true }
     ensures read_fault { result ≡ 6 → Rose (S.faults source.old) (S.faults source.new) }
     ensures no_fault { result ≢ 6 → S.faults source.new ≡ S.faults source.old }
@@ -150,6 +153,7 @@ pub fn phoenix<R: Threads + Sync, S: Source, K: Sink, F: Sink>(
     ensures no_write_fault { result ≢ 7 → K.faults sink.new ≡ K.faults sink.old }
     ensures source_later { S.faults source.old ≤ S.faults source.new }
     ensures sink_later { K.faults sink.old ≤ K.faults sink.new }
+    ensures spared { result ≢ 11 → K.wants sink.new ≡ K.wants sink.old }
     ensures sink_wants_later { K.wants sink.old ≤ K.wants sink.new }
     ensures faults_later { F.faults faults.old ≤ F.faults faults.new }
     ensures faults_wants_later { F.wants faults.old ≤ F.wants faults.new }

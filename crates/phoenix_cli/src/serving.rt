@@ -48,6 +48,7 @@ pub fn serve_frames<R: Threads + Sync, S: Source, K: Sink>(
     ensures no_write_fault { status_of result ≢ 7 → K.faults sink.new ≡ K.faults sink.old }
     ensures source_later { S.faults source.old ≤ S.faults source.new }
     ensures sink_later { K.faults sink.old ≤ K.faults sink.new }
+    ensures spared { status_of result ≢ 11 → K.wants sink.new ≡ K.wants sink.old }
     ensures sink_wants_later { K.wants sink.old ≤ K.wants sink.new }
 {
     outcome_of(serve(rt, alloc, source, sink))

@@ -1,6 +1,6 @@
 -- Orders that are answered one after another.
 use Rattle.std.proofs.Common.{◌≡◌, List, [], ◌∷◌, ◌++◌, refl}
-use Rattle.std.specs.Prelude.{Option, Some, None}
+use Rattle.std.specs.Prelude.{Option}
 use Rattle.px_base.specs.declared.wire.Order.{Order}
 use Rattle.worker_serve.specs.Sessions.{Answered, answer_next, answer_all}
 

@@ -1,5 +1,5 @@
 -- A session over whole frames that it takes ends between them, or for want of something.
-use Rattle.std.proofs.Common.{◌≡◌, ℕ, zero, suc, ◌+◌, ◌^◌, ◌<◌, ◌≤◌, List, [], ◌∷◌, ◌++◌, length, length-append, map, take, drop, refl, sym, ap, ◌∙◌, subst, inl, inr, arith, append_assoc}
+use Rattle.std.proofs.Common.{◌≡◌, ℕ, ◌+◌, ◌<◌, List, [], ◌∷◌, ◌++◌, length, length-append, map, take, drop, refl, sym, ap, ◌∙◌, subst, inl, inr, arith, append_assoc}
 use Rattle.std.specs.Prelude.{◌⊎◌, All, IsTrue, flat_map, Option, Some, None}
 use Rattle.std.specs.Io.KnownBytes.{Consumes, IsAtEnd}
 use Rattle.std.specs.List.Sorted.{IsNonDecreasing}
@@ -13,14 +13,14 @@ use Rattle.px_base.specs.declared.frame.Setup.{Setup}
 use Rattle.px_base.specs.declared.frame.Frame.{Frame}
 use Rattle.px_base.specs.declared.frame.Frame.TheVariants as frame
 use Rattle.px_base.specs.Frames.{spelling, kind_of}
-use Rattle.px_base.specs.FrameFits.{FrameFits, AreFramesOf, IsTorn}
+use Rattle.px_base.specs.FrameFits.{FrameFits, AreFramesOf}
 use Rattle.px_frames.proofs.Apart.{one_reading, longest}
 use Rattle.px_frames.proofs.Headers.{none_if_torn, torn_more}
 use Rattle.part_loads.specs.Loads.{LoadData, AreInOrder, is_piece}
 use Rattle.worker_serve.specs.declared.end.ServeEnd.{ServeEnd}
 use Rattle.worker_serve.specs.declared.end.ServeEnd.TheVariants as end
-use Rattle.worker_serve.specs.Sessions.{Answered, answer_next, answer_all, before_orders, load_frames, IsBegun, AreLoading, AreServed, Takes, Refuses}
-use Rattle.worker_serve.specs.Talks.{Begins, TakesAll, IsTaken, IsTornAfter, IsRefusedAfter}
+use Rattle.worker_serve.specs.Sessions.{Answered, answer_next, answer_all, before_orders, load_frames, IsBegun, AreServed, Takes}
+use Rattle.worker_serve.specs.Talks.{IsTornAfter, IsRefusedAfter}
 use Rattle.worker_serve.specs.Streams.{BYTES, EndsAs, IsServed, IsCutAfter}
 use Rattle.worker_serve.proofs.Answering.{answer_more}
 use Rattle.worker_serve.proofs.Reading.{spellings_more}

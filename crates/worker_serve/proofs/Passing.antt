@@ -1,18 +1,18 @@
 -- A session from a source to a sink, piece by piece.
-use Rattle.std.proofs.Common.{◌≡◌, ℕ, ◌+◌, ◌^◌, ◌<◌, ◌≤◌, List, [], ◌++◌, length, length-append, take, drop, take-append-drop, refl, sym, ap, ◌∙◌, subst, inl, arith, append_assoc}
+use Rattle.std.proofs.Common.{◌≡◌, ℕ, ◌+◌, ◌<◌, List, [], ◌++◌, length, length-append, take, drop, take-append-drop, refl, sym, ap, ◌∙◌, subst, inl, arith, append_assoc}
 use Rattle.std.specs.Prelude.{Option, Some, None, Result, Ok, Err}
-use Rattle.std.specs.Io.KnownBytes.{Consumes, Appends, Keeps, IsAtEnd}
+use Rattle.std.specs.Io.KnownBytes.{Consumes, Appends, IsAtEnd}
 use Rattle.std.proofs.lemmas.List.{append-nil}
 use Rattle.px_base.specs.declared.frame.Frame.{Frame}
 use Rattle.px_base.specs.Frames.{spelling}
 use Rattle.px_base.specs.FrameFits.{AreFramesOf}
+use Rattle.px_io.proofs.Known.{appends_none, consumes_none}
 use Rattle.px_io.specs.Causes.{AppendsPrefix}
-use Rattle.px_frames.specs.Decodings.{counted_bytes}
 use Rattle.worker_serve.specs.declared.end.ServeEnd.{ServeEnd}
 use Rattle.worker_serve.specs.declared.end.ServeEnd.TheVariants as end
-use Rattle.worker_serve.specs.Talks.{Talk, nothing_said, Begins, TakesAll, IsTaken, IsTornAfter, IsRefusedAfter, IsPartly, Says, end_of, IsFed}
+use Rattle.worker_serve.specs.Talks.{Talk, nothing_said, TakesAll, IsTaken, IsTornAfter, IsRefusedAfter, IsPartly, Says, end_of, IsFed}
 use Rattle.worker_serve.specs.Stages.{IsEndAt}
-use Rattle.worker_serve.specs.Streams.{BYTES, IsFrontOfAnswers, IsCutAfter, EndsAs, IsServed, PassSays, IsPassed}
+use Rattle.worker_serve.specs.Streams.{BYTES, IsFrontOfAnswers, EndsAs, IsServed, PassSays, IsPassed}
 
 -- ---- what is known of all answers
 
@@ -66,10 +66,6 @@ passed_front old new piece out before now r fed written = record { told = take w
 pub passed_wanting : (old new : Talk) (piece out : List ℕ) (before now : Option (List ℕ)) (r : Result (Unit {0}) ServeEnd) → IsFed old piece new [] out r → AppendsPrefix before now out → IsPassed old piece new before now (Err end.Memory)
 passed_wanting old new piece out before now r fed written = record { told = take written.count out; written = written.appended; says = front_passed old new piece out written.count r fed }
 
--- a session doesn't end by a fault of the sink by itself
-pub fed_never_writes : (old new : Talk) (piece before now : List ℕ) (r : Result (Unit {0}) ServeEnd) → IsFed old piece new before now r → r ≡ Err end.WriteFault → ⊥
-fed_never_writes old new piece before now r fed is = subst (λ x. Says new.bytes new.told x) is fed.says
-
 -- ---- from the source to the sink
 
 -- A session went on so far: these are the bytes that it took, and all that it answered is written.
@@ -78,14 +74,6 @@ pub record IsServing (left rest old new : Option (List ℕ)) (talk : Talk) : Typ
   pub written : Appends old new talk.told
   pub goes_on : talk.end ≡ None
   pub said : IsTaken talk.bytes talk.told
-
-consumes_none : (left : Option (List ℕ)) → Consumes left left []
-consumes_none None = tt
-consumes_none (Some xs) = refl
-
-appends_none : (old : Option (List ℕ)) → Appends old old []
-appends_none None = tt
-appends_none (Some xs) = sym (append-nil xs)
 
 consumes_more : (left rest further : Option (List ℕ)) (xs ys : List ℕ) → Consumes left rest xs → Consumes rest further ys → Consumes left further (xs ++ ys)
 consumes_more None rest further xs ys a b = tt
@@ -98,12 +86,6 @@ appends_more None new further xs ys a b = tt
 appends_more (Some os) None further xs ys a b = absurd a
 appends_more (Some os) (Some ns) None xs ys a b = absurd b
 appends_more (Some os) (Some ns) (Some fs) xs ys a b = b ∙ ap (λ bs. bs ++ ys) a ∙ append_assoc os xs ys
-
-keeps_consumed : (left rest further : Option (List ℕ)) (xs : List ℕ) → Consumes left rest xs → Keeps rest further → Consumes left further xs
-keeps_consumed None rest further xs a k = tt
-keeps_consumed (Some ls) None further xs a k = absurd a
-keeps_consumed (Some ls) (Some rs) None xs a k = absurd k
-keeps_consumed (Some ls) (Some rs) (Some fs) xs a k = a ∙ ap (λ bs. xs ++ bs) (sym k)
 
 nothing_taken : IsPartly [] []
 nothing_taken = record { frames = []; rest = []; begins = record { fit = λ k d below. absurd (omega (arith, below)); front = refl; answers = []; taken = inl (refl, refl); told_is = refl } }
@@ -161,18 +143,6 @@ served_passed left rest further old between new talk after piece why so_far take
     by_end end.TooLong h = absurd h
     by_end end.ReadFault h = absurd h
 
--- a piece ends a session neither by the source nor between frames
-pub passed_never : (talk after : Talk) (piece : List ℕ) (before now : Option (List ℕ)) (why : ServeEnd) → IsPassed talk piece after before now (Err why) → why ≡ end.ReadFault → ⊥
-passed_never talk after piece before now why passed is = subst (λ w. PassSays (talk.bytes ++ piece) (talk.told ++ passed.told) after (Err w)) is passed.says
-
--- the source failed
-pub served_failed : (left rest further old new : Option (List ℕ)) (talk : Talk) → IsServing left rest old new talk → Keeps rest further → length talk.bytes < BYTES → IsServed left further old new end.ReadFault
-served_failed left rest further old new talk so_far kept short = record { bytes = talk.bytes; taken = keeps_consumed left rest further talk.bytes so_far.taken kept; told = talk.told; written = so_far.written; ends = (so_far.said, short) }
-
--- as many bytes were taken as may be
-pub served_long : (left rest old new : Option (List ℕ)) (talk : Talk) → IsServing left rest old new talk → length talk.bytes ≡ BYTES → IsServed left rest old new end.TooLong
-served_long left rest old new talk so_far long = record { bytes = talk.bytes; taken = so_far.taken; told = talk.told; written = so_far.written; ends = (so_far.said, sym long) }
-
 -- the input ended
 pub served_whole : (left rest further old new : Option (List ℕ)) (talk : Talk) (why : ServeEnd) → IsServing left rest old new talk → Consumes rest further [] → IsAtEnd further → length talk.bytes < BYTES →
     ((frames : List Frame) (more : List ℕ) → AreFramesOf talk.bytes frames more → IsEndAt frames more why) → IsServed left further old new why
@@ -193,7 +163,3 @@ served_whole left rest further old new talk why so_far none at_end short ending 
     by_end end.ReadFault h = absurd h
     by_end end.WriteFault h = absurd h
     by_end end.Memory h = absurd h
-
--- an end between or inside frames is no fault of the source or the sink
-pub end_is_quiet : (frames : List Frame) (more : List ℕ) (why : ServeEnd) → IsEndAt frames more why → (why ≡ end.ReadFault → ⊥) × (why ≡ end.WriteFault → ⊥)
-end_is_quiet frames more why ends = (λ is. subst (λ w. IsEndAt frames more w) is ends, λ is. subst (λ w. IsEndAt frames more w) is ends)

@@ -1,6 +1,6 @@
 -- The frames of the bytes of a session, one by one.
-use Rattle.std.proofs.Common.{◌≡◌, ℕ, zero, suc, ◌+◌, ◌*◌, ◌^◌, ◌<◌, ◌≤◌, min, Bool, true, false, List, [], ◌∷◌, ◌++◌, length, length-append, take, drop, refl, sym, ap, ◌∙◌, subst, inl, inr, arith, append_assoc}
-use Rattle.std.specs.Prelude.{All, flat_map, slice_get, Option, Some, None, Result, Ok, Err, IsTrue}
+use Rattle.std.proofs.Common.{◌≡◌, ℕ, ◌+◌, ◌^◌, ◌≤◌, min, List, [], ◌∷◌, ◌++◌, length, length-append, drop, refl, sym, ap, ◌∙◌, subst, inl, inr, arith, append_assoc}
+use Rattle.std.specs.Prelude.{All, flat_map, slice_get, Some, None}
 use Rattle.std.proofs.lemmas.List.{append-nil, drop_at}
 use Rattle.std.proofs.Math.Seq.{get_or-append_seam}
 use Rattle.std.proofs.lemmas.List.Elements.{All-push, All-get_or}
@@ -9,13 +9,13 @@ use Rattle.px_base.specs.declared.frame.Frame.{Frame}
 use Rattle.px_base.specs.declared.frame.Frame.TheVariants as frame
 use Rattle.px_base.specs.Frames.{spelling}
 use Rattle.px_base.specs.FrameFits.{FrameFits, AreFramesOf, IsTorn}
-use Rattle.px_frames.specs.Decodings.{Fed, counted_bytes, IsOldest, IsSound, IsTornAt, IsCount, Reading}
+use Rattle.px_frames.specs.Decodings.{Fed, counted_bytes, IsOldest, IsSound, IsTornAt, IsCount}
 use Rattle.px_frames.proofs.Apart.{one_reading, longest}
 use Rattle.worker_serve.specs.declared.stage.Stage.{Stage}
 use Rattle.worker_serve.specs.declared.stage.Stage.TheVariants as stage
 use Rattle.worker_serve.specs.Sessions.{Takes, Refuses}
 use Rattle.worker_serve.specs.Talks.{Begins, TakesAll, IsTaken, IsTornAfter, IsRefusedAfter, IsPartly, answer_bytes}
-use Rattle.worker_serve.specs.Stages.{IsStageAfter, IsStageNext, IsUpTo, IsEndAt}
+use Rattle.worker_serve.specs.Stages.{IsStageAfter, IsStageNext, IsUpTo}
 
 -- ---- stages
 
@@ -33,10 +33,6 @@ begins bytes told took at now it = record {
   taken = stage_takes it.frames it.answers now it.stage;
   told_is = it.told_is;
 }
-
--- at the start nothing was taken
-pub up_to_nothing : IsUpTo [] [] 0 0 stage.Waiting
-up_to_nothing = record { frames = []; rest = []; fit = λ k d below. absurd (omega (arith, below)); front = refl; count = refl; place = refl; answers = []; told_is = refl; stage = (refl, refl) }
 
 -- more bytes change nothing of what was taken
 pub up_to_more : (bytes piece told : List ℕ) (took at : ℕ) (now : Stage) → IsUpTo bytes told took at now → IsUpTo (bytes ++ piece) told took at now

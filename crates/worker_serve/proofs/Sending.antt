@@ -1,14 +1,11 @@
 -- What a world answers fits a frame.
-use Rattle.std.proofs.Common.{◌≡◌, ℕ, zero, suc, ◌+◌, ◌-◌, ◌^◌, ◌<◌, ◌≤◌, ◌∙◌, Bool, true, false, List, [], ◌∷◌, ◌++◌, length, get_or, map, refl, sym, ap, arith, inl, inr, take, subst, add-zero}
-use Rattle.std.specs.Prelude.{◌==◌, ◌||◌, ◌&&◌, not, nat_lt, All, IsFalse, filter, sum_by, if◌then◌else◌, Option, None, Some, Result, Ok, Err, replicate}
-use Rattle.std.specs.List.{range_with_len}
+use Rattle.std.proofs.Common.{◌≡◌, ℕ, zero, suc, ◌+◌, ◌-◌, ◌^◌, ◌<◌, ◌≤◌, ◌∙◌, Bool, true, false, List, [], ◌∷◌, ◌++◌, length, get_or, map, refl, sym, ap, arith, take, subst}
+use Rattle.std.specs.Prelude.{◌==◌, ◌||◌, ◌&&◌, not, nat_lt, All, filter, sum_by, if◌then◌else◌, Option, None, Some, Result, Ok, Err}
 use Rattle.std.specs.List.Sorted.{IsStrictlyIncreasing}
-use Rattle.std.proofs.lemmas.Bool.{cases_lt}
-use Rattle.std.proofs.lemmas.List.{length-map, length-replicate, get_or-replicate}
+use Rattle.std.proofs.lemmas.List.{length-map}
 use Rattle.std.proofs.lemmas.List.Elements.{filter-append, All-filter, All-map, All-weaker, All-replicate}
 use Rattle.std.proofs.lemmas.List.Kept.{IsStrictlyIncreasing-filter}
 use Rattle.std.proofs.lemmas.List.Sums.{sum_by_more, sum_by-take-le, count_by-le-length, sum_by-append}
-use Rattle.px_base.specs.declared.TheConstants.{TOP}
 use Rattle.px_base.specs.declared.graph.Part.{Part}
 use Rattle.px_base.specs.declared.graph.Read.{Read}
 use Rattle.px_base.specs.declared.program.CoreProgram.{CoreProgram}
@@ -16,24 +13,23 @@ use Rattle.px_base.specs.declared.wire.Update.{Update}
 use Rattle.px_base.specs.declared.wire.Answer.{Answer}
 use Rattle.px_base.specs.declared.wire.Order.{Order}
 use Rattle.px_base.specs.declared.wire.Order.TheVariants.{Step, Report}
-use Rattle.px_base.specs.declared.frame.Frame.{Frame}
 use Rattle.px_base.specs.declared.frame.Frame.TheVariants as frame
 use Rattle.px_base.specs.Values.{IsValue, positions_below, by_position, is_in, is_listed, one_if}
 use Rattle.px_base.specs.Classes.{counts_reads}
 use Rattle.px_base.specs.Answers.{reads_needed}
-use Rattle.px_base.specs.Graphs.{HasWeights, reads_passing, read_count, row_at}
+use Rattle.px_base.specs.Graphs.{reads_passing, row_at}
 use Rattle.px_base.specs.Parts.{PartFits, is_within}
-use Rattle.px_base.specs.FrameFits.{FrameFits, IsVertex, IsWord, PairsFit}
-use Rattle.px_base.specs.Worlds.{World, of_values, of_counts, ValueWorld, CountWorld, StepOutcome, Refusal, CarriesValues, updates_in, refusal_of, is_fresh, new_world, new_value_world, new_count_world}
+use Rattle.px_base.specs.FrameFits.{FrameFits, IsVertex, PairsFit}
+use Rattle.px_base.specs.Worlds.{World, of_values, of_counts, ValueWorld, CountWorld, StepOutcome, Refusal, CarriesValues, refusal_of, is_fresh, new_world, new_value_world, new_count_world}
 use Rattle.px_base.specs.ValueSteps.{order_outcome, announcements, has_changed, renewed_masters, updated_mirrors}
 use Rattle.px_base.specs.CountSteps.{count_outcome, times_read, death_announcements, dies, world_as_read, after_deaths, is_announced}
 use Rattle.px_base.specs.WorldSteps.{world_step, map_outcome}
 use Rattle.px_base.proofs.Listed.{rises_from_zero}
+use Rattle.px_base.proofs.Members.{range_suc}
 use Rattle.px_base.proofs.Positions.{length_by_position, at_position}
-use Rattle.px_base.proofs.WorldsKeep.{step_fits}
+use Rattle.px_base.proofs.Ranges.{within_bounds}
+use Rattle.px_base.proofs.WorldsKeep.{at_any_place, step_fits}
 use Rattle.count_world.specs.Kept.{KeepsCounts}
-use Rattle.count_world.proofs.Masters.{within_bounds}
-use Rattle.std.proofs.lemmas.Grind.{common_steps}
 use Rattle.worker_world.specs.Kept.{KeepsLimits, KeepsWorld}
 use Rattle.worker_serve.specs.Stages.{IsSendable}
 
@@ -75,12 +71,6 @@ pairs_fit f vs rising each values = record {
 within_room : (part : Part) → PartFits part → (v : ℕ) → is_within part.low part.high v ≡ true → IsVertex v
 within_room part fits v h = omega (arith, (within_bounds part.low part.high v h).1, fits.room)
 
-at_any_place : (values : List ℕ) (k : ℕ) → All IsValue values → IsValue (get_or values k 0)
-at_any_place values k known = elim (cases_lt k (length values)) [ inl inside ↦ known k 0 inside | inr past ↦ rw (nothing_there values k past) (omega arith) ]
-  where
-    nothing_there : (values : List ℕ) (k : ℕ) → length values ≤ k → get_or values k 0 ≡ 0
-    nothing_there values k past = grind (arith, common_steps)
-
 announced_fit : (all : Bool) (part : Part) (before after : List ℕ) → PartFits part → All IsValue after → ArePairs (announcements all part before after)
 announced_fit all part before after fits values =
     let test : ℕ → Bool = λ v. all || has_changed before after (v - part.low) in
@@ -102,10 +92,6 @@ values_answer w (Step epoch round updates) keeps fits =
 values_answer w (Report epoch) keeps fits = (fits, omega (arith, keeps.fits.masters.one_each, keeps.fits.part.room), keeps.fits.masters.in_range)
 
 -- ---- counts
-
-range_suc : (a n : ℕ) → range_with_len a (suc n) ≡ range_with_len a n ++ (a + n) ∷ []
-range_suc a zero = rw add-zero refl
-range_suc a (suc n) = let last : a + 1 + n ≡ a + suc n = omega arith in ap (λ rest. a ∷ rest) (range_suc (a + 1) n ∙ ap (λ j. range_with_len (a + 1) n ++ j ∷ []) last)
 
 abbrev times_in : List (List Read) → ℕ → ℕ → ℕ
 times_in rows m k = reads_passing (λ u. u == m) (row_at rows k)

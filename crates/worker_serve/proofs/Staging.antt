@@ -1,23 +1,20 @@
 -- Which frame leads to which stage, and which is refused.
-use Rattle.std.proofs.Common.{◌≡◌, ℕ, Bool, true, false, List, [], ◌∷◌, ◌++◌, length, map, refl, sym, ap, ◌∙◌, inl, inr, arith, append_assoc, subst}
-use Rattle.std.specs.Prelude.{All, IsTrue, IsOk, Option, Some, None, Ok, Err}
+use Rattle.std.proofs.Common.{◌≡◌, true, false, List, [], ◌∷◌, ◌++◌, map, refl, sym, ap, ◌∙◌, inl, inr, append_assoc, subst}
+use Rattle.std.specs.Prelude.{IsOk, Some, None, Ok, Err}
 use Rattle.px_base.specs.declared.wire.Order.{Order}
-use Rattle.px_base.specs.declared.wire.Order.TheVariants.{Step, Report}
 use Rattle.px_base.specs.declared.wire.Answer.{Answer}
 use Rattle.px_base.specs.declared.frame.Setup.{Setup}
 use Rattle.px_base.specs.declared.frame.Frame.{Frame}
 use Rattle.px_base.specs.declared.frame.Frame.TheVariants as frame
 use Rattle.px_base.specs.Classes.{class_of}
 use Rattle.px_base.specs.Core.{core_form}
-use Rattle.px_base.specs.Worlds.{World, new_world, Refusal, StepOutcome, CarriesValues, updates_in}
-use Rattle.px_base.specs.Values.{IsValue}
-use Rattle.px_base.specs.FrameFits.{FrameFits, IsVertex}
-use Rattle.std.proofs.lemmas.List.Elements.{All-nil, All-weaker}
+use Rattle.px_base.specs.Worlds.{World, new_world, Refusal}
+use Rattle.px_base.specs.FrameFits.{FrameFits}
 use Rattle.px_base.specs.WorldSteps.{world_step}
 use Rattle.part_loads.specs.Loads.{LoadData, AreInOrder, IsWhole, loaded_part, with_piece}
 use Rattle.worker_serve.specs.Sessions.{Answered, answer_next, answer_all, before_orders, load_frames, AreLoading, AreServed, Takes, Refuses}
 use Rattle.worker_serve.specs.Stages.{order_in, is_ready}
-use Rattle.worker_serve.proofs.Splitting.{one_split, ends_last, not_all_pieces, IsOrderMore, order_more}
+use Rattle.worker_serve.proofs.Splitting.{one_split, ends_last, not_all_pieces, order_more}
 use Rattle.worker_serve.proofs.Answering.{answer_more}
 
 abbrev pub answered_so_far : World → List Answer → Answered
@@ -179,10 +176,3 @@ order_is (frame.Answer x) order e = cc
 -- an order fits where its frame does
 pub order_fits : (f : Frame) (order : Order) → order_in f ≡ Some order → FrameFits f → FrameFits (frame.Order order)
 order_fits f order e fits = subst FrameFits (order_is f order e) fits
-
-pub order_carries : (f : Frame) (order : Order) → order_in f ≡ Some order → FrameFits f → CarriesValues (updates_in order)
-order_carries f order e fits = carries order (order_fits f order e fits)
-  where
-    carries : (o : Order) → FrameFits (frame.Order o) → CarriesValues (updates_in o)
-    carries (Step epoch round updates) h = All-weaker (λ u. IsVertex u.vertex × IsValue u.value) (λ u. IsValue u.value) (λ u k. k.1) updates h.3.each
-    carries (Report epoch) h = All-nil (λ u. IsValue u.value)

@@ -1,5 +1,5 @@
 -- One frame of a session.
-use Rattle.std.proofs.Common.{◌≡◌, ℕ, ◌+◌, ◌-◌, ◌^◌, ◌<◌, ◌≤◌, min, append_assoc, true, false, List, [], ◌∷◌, ◌++◌, length, length-append, drop, refl, sym, ap, ◌∙◌, subst, inl, inr, arith}
+use Rattle.std.proofs.Common.{◌≡◌, ℕ, ◌+◌, ◌-◌, ◌^◌, ◌<◌, min, true, false, List, [], ◌∷◌, ◌++◌, length, drop, refl, sym, ap, ◌∙◌, subst, arith}
 use Rattle.std.specs.Prelude.{Option, Some, None, Result, Ok, Err}
 use Rattle.std.proofs.lemmas.List.{append-nil}
 use Rattle.px_base.specs.declared.wire.Answer.{Answer}
@@ -93,40 +93,6 @@ pub record IsSteppedSoFar (old new : Talk) (before now : List ℕ) : Type 0 wher
   pub told : new.told ≡ old.told ++ more
   pub bytes : new.bytes ≡ old.bytes
   pub goes_on : new.end ≡ None
-
-pub so_far_none : (self : Talk) (out : List ℕ) → self.end ≡ None → IsSteppedSoFar self self out out
-so_far_none self out on = record { more = []; added = sym (append-nil out); told = sym (append-nil self.told); bytes = refl; goes_on = on }
-
--- what was added so far, and what one step more adds
-added_more : (a b c xs ys : List ℕ) → b ≡ a ++ xs → c ≡ b ++ ys → c ≡ a ++ (xs ++ ys)
-added_more a b c xs ys e f = f ∙ ap (λ bs. bs ++ ys) e ∙ append_assoc a xs ys
-
-pub so_far_more : (first old new : Talk) (before between now : List ℕ) → IsSteppedSoFar first old before between → IsStep old new between now (Ok true) → IsSteppedSoFar first new before now
-so_far_more first old new before between now so_far step = record {
-  more = so_far.more ++ step.more;
-  added = added_more before between now so_far.more step.more so_far.added step.added;
-  told = added_more first.told old.told new.told so_far.more step.more so_far.told step.told;
-  bytes = step.bytes ∙ so_far.bytes;
-  goes_on = step.says.0;
-}
-
-pub all_done : (first old new : Talk) (before between now : List ℕ) → IsSteppedSoFar first old before between → IsStep old new between now (Ok false) → AreStepped first new before now (Ok tt)
-all_done first old new before between now so_far step = record {
-  more = so_far.more ++ step.more;
-  added = added_more before between now so_far.more step.more so_far.added step.added;
-  told = added_more first.told old.told new.told so_far.more step.more so_far.told step.told;
-  bytes = step.bytes ∙ so_far.bytes;
-  says = step.says;
-}
-
-pub all_ended : (first old new : Talk) (before between now : List ℕ) (why : ServeEnd) → IsSteppedSoFar first old before between → IsStep old new between now (Err why) → AreStepped first new before now (Err why)
-all_ended first old new before between now why so_far step = record {
-  more = so_far.more ++ step.more;
-  added = added_more before between now so_far.more step.more so_far.added step.added;
-  told = added_more first.told old.told new.told so_far.more step.more so_far.told step.told;
-  bytes = step.bytes ∙ so_far.bytes;
-  says = step.says;
-}
 
 -- fewer frames are left
 pub fewer : (old new : Talk) (before now : List ℕ) → IsStep old new before now (Ok true) → length new.bytes - new.took < length old.bytes - old.took

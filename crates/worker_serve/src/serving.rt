@@ -55,6 +55,7 @@ fn pass<R: Threads + Sync, K: Sink>(
     ensures write_fault { result ≡ Err ServeEnd.WriteFault → Rose (K.faults sink.old) (K.faults sink.new) }
     ensures no_write_fault { result ≢ Err ServeEnd.WriteFault → K.faults sink.new ≡ K.faults sink.old }
     ensures sink_later { K.faults sink.old ≤ K.faults sink.new }
+    ensures spared { result ≢ Err ServeEnd.Memory → K.wants sink.new ≡ K.wants sink.old }
     ensures sink_wants_later { K.wants sink.old ≤ K.wants sink.new }
 {
     out.clear();
@@ -82,6 +83,7 @@ fn serve_pieces<R: Threads + Sync, S: Source, K: Sink>(
     ensures no_write_fault { result ≢ ServeEnd.WriteFault → K.faults sink.new ≡ K.faults sink.old }
     ensures source_later { S.faults source.old ≤ S.faults source.new }
     ensures sink_later { K.faults sink.old ≤ K.faults sink.new }
+    ensures spared { result ≢ ServeEnd.Memory → K.wants sink.new ≡ K.wants sink.old }
     ensures sink_wants_later { K.wants sink.old ≤ K.wants sink.new }
 {
     let mut session = Session::new(alloc);
@@ -123,6 +125,7 @@ pub fn serve<R: Threads + Sync, S: Source, K: Sink>(
     ensures no_write_fault { result ≢ ServeEnd.WriteFault → K.faults sink.new ≡ K.faults sink.old }
     ensures source_later { S.faults source.old ≤ S.faults source.new }
     ensures sink_later { K.faults sink.old ≤ K.faults sink.new }
+    ensures spared { result ≢ ServeEnd.Memory → K.wants sink.new ≡ K.wants sink.old }
     ensures sink_wants_later { K.wants sink.old ≤ K.wants sink.new }
 {
     match zeros(alloc, PIECE) {

@@ -1,4 +1,4 @@
-use Rattle.phoenix_cli.proofs.Served.{read_failed, write_failed, no_read_failed, no_write_failed}
+use Rattle.phoenix_cli.proofs.Served.{read_failed, write_failed, no_read_failed, no_write_failed, no_want}
 use Rattle.phoenix_cli.proofs.serving.serve_frames.Goals as goal
 
 pub returns-clause-run : goal.returns-clause-run
@@ -15,3 +15,6 @@ returns-clause-no_fault g c = λ other. c.serve.ensures.no_fault (no_read_failed
 
 pub returns-clause-no_write_fault : goal.returns-clause-no_write_fault
 returns-clause-no_write_fault g c = λ other. c.serve.ensures.no_write_fault (no_write_failed c.serve.result c.outcome_of.result c.outcome_of.ensures other)
+
+pub returns-clause-spared : goal.returns-clause-spared
+returns-clause-spared g c = λ other. c.serve.ensures.spared (no_want c.serve.result c.outcome_of.result c.outcome_of.ensures other)

@@ -1,4 +1,4 @@
-use Rattle.std.proofs.Common.{◌≡◌, [], subst}
+use Rattle.std.proofs.Common.{[], subst}
 use Rattle.std.specs.Io.KnownBytes.{Appends}
 use Rattle.px_io.specs.Causes.{AppendsPrefix}
 use Rattle.worker_serve.specs.Talks.{IsFed}

@@ -1,4 +1,4 @@
-use Rattle.std.proofs.Common.{◌≡◌, ◌+◌, ◌-◌, ◌<◌, ◌≤◌, [], ◌++◌, length, length-append, take, Ok, Err, refl, sym, ap, subst, ◌∙◌, arith}
+use Rattle.std.proofs.Common.{◌≡◌, ◌+◌, ◌-◌, ◌<◌, [], length, length-append, take, Ok, refl, ap, subst, ◌∙◌, arith}
 use Rattle.std.specs.Io.KnownBytes.{Consumes, IsAtEnd}
 use Rattle.std.proofs.lemmas.List.{length-take-le}
 use Rattle.std.proofs.lemmas.Grind.{common_steps}
@@ -13,7 +13,7 @@ loop-room-init g c = record {
   room = (let none : length c.new-session.result.bytes ≡ 0 = ap (λ t. length t.bytes) c.new-session.ensures in omega (arith, none));
   source = refl;
   sink = refl;
-  wants = omega arith;
+  wants = refl;
 }
 
 pub returns-then-count-eq0-clause-served : goal.returns-then-count-eq0-clause-served
@@ -43,5 +43,5 @@ loop-room-preserved g c =
       room = omega (arith, c.loop-room.invariant.room, longer, count, c.in-Ok.ensures.fits);
       source = c.in-Ok.ensures.quiet ∙ c.loop-room.invariant.source;
       sink = c.in_default.ensures.no_write_fault (λ same. cc) ∙ c.loop-room.invariant.sink;
-      wants = omega (arith, c.loop-room.invariant.wants, c.pass.ensures.sink_wants_later);
+      wants = c.in_default.ensures.spared (λ same. cc) ∙ c.loop-room.invariant.wants;
     })

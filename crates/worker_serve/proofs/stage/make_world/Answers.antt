@@ -1,5 +1,4 @@
 use Rattle.std.proofs.Common.{◌≡◌, [], ◌∙◌, ap}
-use Rattle.px_base.specs.declared.graph.Part.{Part}
 use Rattle.px_base.specs.Core.{core_form}
 use Rattle.px_base.specs.Worlds.{new_world}
 use Rattle.part_loads.specs.Loads.{IsWhole, loaded_part}

@@ -1,4 +1,4 @@
-use Rattle.std.proofs.Common.{◌≡◌, ◌∷◌, ◌++◌, [], sym, ap, subst}
+use Rattle.std.proofs.Common.{◌≡◌, ◌∷◌, ◌++◌, [], sym, subst}
 use Rattle.std.specs.Prelude.{IfOk}
 use Rattle.worker_serve.specs.declared.stage.Stage.TheVariants as stage
 use Rattle.worker_serve.specs.Sessions.{AreLoading, Refuses}

@@ -1,4 +1,4 @@
-use Rattle.std.proofs.Common.{◌≡◌, ◌∙◌, sym, ap, subst, None}
+use Rattle.std.proofs.Common.{◌≡◌, ◌∙◌, sym, ap, subst}
 use Rattle.px_frames.specs.Decodings.{IsSound, IsTornAt}
 use Rattle.std.specs.Prelude.{MatchResult, Ok}
 use Rattle.px_frames.specs.declared.decoder.FeedFault.TheVariants as feed_fault

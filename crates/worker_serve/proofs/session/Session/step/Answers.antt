@@ -1,7 +1,7 @@
-use Rattle.std.proofs.Common.{rules, vec_len, ◌≡◌, ◌≤◌, ◌+◌, ◌^◌, min, drop, ◌++◌, Err, None, ◌∙◌, sym, ap, subst, length, length-append, arith}
+use Rattle.std.proofs.Common.{rules, vec_len, ◌≡◌, ◌+◌, ◌^◌, min, drop, Err, None, ◌∙◌, sym, ap, subst, length, length-append, arith}
 use Rattle.worker_serve.specs.Talks.{answer_bytes, took_one}
-use Rattle.worker_serve.specs.Stages.{IsStageAfter, GoesOn}
-use Rattle.worker_serve.proofs.Stepping.{IsTakenStep, next_of, step_none, step_taken, step_ended}
+use Rattle.worker_serve.specs.Stages.{IsStageAfter}
+use Rattle.worker_serve.proofs.Stepping.{next_of, step_none, step_taken, step_ended}
 use Rattle.worker_serve.proofs.session.Session.step.Goals as goal
 
 pub returns-in_default : goal.returns-in_default

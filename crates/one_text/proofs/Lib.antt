@@ -1,3 +1,7 @@
+pub mod Building
+pub mod Counting
+pub mod Endings
 pub mod Ids
+pub mod Listing
 pub mod Rows
 pub mod Texts

@@ -17,7 +17,8 @@ use Rattle.px_base.specs.Text.{answer_text}
 use Rattle.px_base.specs.AnswerTexts.{IsAnswerOn, IsAnswerText}
 use Rattle.answers.specs.Built.{IsBuilt}
 use Rattle.answers.proofs.ByClass.{only}
-use Rattle.one_text.proofs.Ids.{first, later, one_list}
+use Rattle.px_base.proofs.Members.{first, later}
+use Rattle.one_text.proofs.Ids.{one_list}
 use Rattle.one_text.proofs.Rows.{one_graph}
 
 -- ---- both ends of an edge are vertices
@@ -45,7 +46,7 @@ ends_listed (e ∷ es) ids h = All-cons (HasEnds ids) e es
 abbrev IsBetween : ℕ → Edge → Type 0
 IsBetween n e = (e.source < n) × (e.target < n)
 
-ends_below : (edges : List IdEdge) (list : EdgeList) → IsEdgeListOf edges list → All (IsBetween (length list.ids)) list.edges
+pub ends_below : (edges : List IdEdge) (list : EdgeList) → IsEdgeListOf edges list → All (IsBetween (length list.ids)) list.edges
 ends_below edges list of =
     let placed : All (λ e. IsBetween (length list.ids) (placed_edge list.ids e)) edges = λ k d below.
     (let ends : HasEnds list.ids (get_or edges k d) = ends_listed edges list.ids (λ u. (of.members u).1) k d below in
@@ -54,7 +55,7 @@ ends_below edges list of =
 
 -- ---- texts
 
-built_on : (p : Program) (list : EdgeList) (graph : ReadGraph) → All (IsBetween (length list.ids)) list.edges → IsGraphOf p.form p.reads (length list.ids) list.edges graph → IsBuilt p graph
+pub built_on : (p : Program) (list : EdgeList) (graph : ReadGraph) → All (IsBetween (length list.ids)) list.edges → IsGraphOf p.form p.reads (length list.ids) list.edges graph → IsBuilt p graph
 built_on p list graph ends built = record {
   edges = list.edges;
   ends = subst (λ (n : ℕ). All (IsBetween n) list.edges) (sym built.size) ends;

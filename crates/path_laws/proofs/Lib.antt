@@ -1,0 +1,15 @@
+pub mod Beginning
+pub mod CoreWalks
+pub mod Distances
+pub mod Edges
+pub mod Examples
+pub mod Fixed
+pub mod IdEdges
+pub mod InTexts
+pub mod LeastIds
+pub mod Levels
+pub mod OnEdges
+pub mod Reached
+pub mod Turned
+pub mod Ways
+pub mod Widths

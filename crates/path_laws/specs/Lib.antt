@@ -1,0 +1,4 @@
+pub mod ByIds
+pub mod Paths
+pub mod Readings
+pub mod Walks

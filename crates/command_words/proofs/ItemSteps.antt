@@ -1,9 +1,8 @@
 -- The words from some place on, an item further.
-use Rattle.std.proofs.Common.{◌≡◌, ℕ, ◌+◌, ◌<◌, Bool, true, List, [], ◌∷◌, length, drop, get_or, sym, ap, ◌∙◌, add-one, arith}
+use Rattle.std.proofs.Common.{[], ◌≡◌, ℕ, ◌+◌, ◌<◌, Bool, true, List, ◌∷◌, length, drop, get_or, sym, ap, ◌∙◌, add-one, arith}
 use Rattle.std.specs.Prelude.{◌==◌, Option, Some, None, is_some, if◌then◌else◌}
 use Rattle.std.specs.List.{position_or_len, before_first, after_first}
 use Rattle.std.proofs.Math.Seq.{drop-cons}
-use Rattle.std.proofs.lemmas.List.{drop_all}
 use Rattle.std.proofs.lemmas.List.Sums.{passes_at_first}
 use Rattle.std.proofs.lemmas.List.Folds.{list_any_at}
 use Rattle.px_base.specs.Values.{is_listed}
@@ -61,28 +60,3 @@ item_of_two line words at this item inside found is =
     ap (items_of line) (first ∙ ap (λ ws. get_or words at [] ∷ ws) second)
     ∙ take_two line (get_or words at []) (get_or words (at + 1) []) (drop (at + 1 + 1) words) this item found is
     ∙ ap (λ k. with_item item (items_of line (drop k words))) (sym place)
-
--- ---- an item of one word
-
-take_one : (line : CommandLine) (word : List ℕ) (words : List (List ℕ)) (item : Option Item) →
-    None ≡ option_in line.options word → item ≡ item_alone line word → items_of line (word ∷ words) ≡ with_item item (items_of line words)
-take_one line word [] item found is = ap (λ (o : Option OptionName). elim o as (λ _. Option (List Item)) [ Some this ↦ None | None ↦ with_item (item_alone line word) (Some []) ]) (sym found) ∙ ap (λ i. with_item i (Some [])) (sym is)
-take_one line word (next ∷ words) item found is = ap (front line word next words) (sym found) ∙ ap (λ i. with_item i (items_of line (next ∷ words))) (sym is)
-
-pub item_of_one : (line : CommandLine) (words : List (List ℕ)) (at : ℕ) (item : Option Item) → at < length words →
-    None ≡ option_in line.options (get_or words at []) → item ≡ item_alone line (get_or words at []) →
-    items_of line (drop at words) ≡ with_item item (items_of line (drop (at + item_length line (get_or words at [])) words))
-item_of_one line words at item inside found is =
-    let short : item_length line (get_or words at []) ≡ 1 = ap (λ (o : Option OptionName). two_if (is_some o)) (sym found) in
-    ap (items_of line) (cut_one words at inside)
-    ∙ take_one line (get_or words at []) (drop (at + 1) words) item found is
-    ∙ ap (λ k. with_item item (items_of line (drop (at + k) words))) (sym short)
-
--- ---- an option without a number
-
-pub option_at_end : (line : CommandLine) (words : List (List ℕ)) (at : ℕ) (this : OptionName) → at + 1 ≡ length words →
-    Some this ≡ option_in line.options (get_or words at []) → items_of line (drop at words) ≡ None
-option_at_end line words at this last found =
-    let gone : drop (at + 1) words ≡ [] = drop_all (at + 1) words (omega arith) in
-    ap (items_of line) (cut_one words at (omega arith) ∙ ap (λ ws. get_or words at [] ∷ ws) gone)
-    ∙ ap (λ (o : Option OptionName). elim o as (λ _. Option (List Item)) [ Some this ↦ None | None ↦ with_item (item_alone line (get_or words at [])) (Some []) ]) (sym found)

@@ -1,10 +1,9 @@
 -- The positionals of words that are right, an item further.
-use Rattle.std.proofs.Common.{◌≡◌, ℕ, Bool, true, false, ◌&&◌, List, [], ◌∷◌, ◌++◌, append_assoc, length, map, refl, sym, ap, ◌∙◌, arith}
+use Rattle.std.proofs.Common.{[], ◌≡◌, ℕ, Bool, true, false, ◌&&◌, List, ◌∷◌, length, refl, sym, ap, ◌∙◌, arith}
 use Rattle.std.specs.Prelude.{Option, Some, None, IsSome, is_some, unwrap_or}
 use Rattle.std.specs.Option.{option_map}
 use Rattle.command_words.specs.declared.items.Kind.{Kind}
 use Rattle.command_words.specs.declared.items.Kind.TheVariants as kind
-use Rattle.px_base.specs.Text.{number_of}
 use Rattle.command_words.specs.CommandTable.{number_in, source_range}
 use Rattle.command_words.specs.CommandWords.{Item, with_item, positionals_of}
 use Rattle.command_words.specs.Judging.{item_with, is_positional_kind, are_sources}
@@ -64,11 +63,6 @@ pub begins_with_source : (all : List (List ℕ)) (word : List ℕ) (words : List
 begins_with_source all word words is h =
     let parts = both (is_some (number_in source_range word)) (are_sources words) (sym (ap are_sources is) ∙ h) in
     record { first = parts.0; others = parts.1 }
-
--- a number more is taken over
-pub one_more_number : (taken : List ℕ) (all : List (List ℕ)) (word : List ℕ) (words : List (List ℕ)) → all ≡ word ∷ words →
-    (taken ++ number_of word ∷ []) ++ map number_of words ≡ taken ++ map number_of all
-one_more_number taken all word words is = append_assoc taken (number_of word ∷ []) (map number_of words) ∙ sym (ap (λ ws. taken ++ map number_of ws) is)
 
 pub none_left : (words : List (List ℕ)) → length words ≡ 0 → words ≡ []
 none_left [] e = refl

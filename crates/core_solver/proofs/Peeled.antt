@@ -1,5 +1,5 @@
 -- What the steps of a peeling keep.
-use Rattle.std.proofs.Common.{◌≡◌, ℕ, ◌+◌, ◌-◌, ◌<◌, ◌≤◌, ◌≢◌, Bool, true, false, List, [], ◌∷◌, ◌++◌, length, map, drop, get_or, set, replicate, refl, sym, ◌∙◌, ap, subst, arith, inl, inr}
+use Rattle.std.proofs.Common.{[], ◌≡◌, ℕ, ◌+◌, ◌-◌, ◌<◌, ◌≤◌, ◌≢◌, Bool, true, false, List, ◌∷◌, ◌++◌, length, map, drop, get_or, set, replicate, refl, sym, ◌∙◌, ap, subst, arith, inl, inr}
 use Rattle.std.specs.Prelude.{◌==◌, All, IsTrue, nat_lt, slice_index, if◌then◌else◌}
 use Rattle.std.proofs.lemmas.Bool.{cases_eq, eqb-true, ltb-false, ltb-true}
 use Rattle.std.proofs.lemmas.Bool.Decides.{eqb_tells}
@@ -140,13 +140,6 @@ pub taken_at : (k : ℕ) (rows : List (List Read)) (row : List Read) (i : ℕ) (
 taken_at k rows row i d s new both_ways sources inside h enough is =
     subst (λ (t : PeelState). IsTaken k rows (drop (i + 1) row) s t) (sym is)
     (taken k rows (get_or row i d) (drop (i + 1) row) s both_ways (sources i d inside) (subst (λ (left : List Read). IsPeeling k rows left s) (drop_more row i d inside) h) enough)
-
--- a living vertex whose read is taken has one
-pub some_left : (k : ℕ) (rows : List (List Read)) (r : Read) (left : List Read) (s : PeelState) → IsPeeling k rows (r ∷ left) s → IsTrue (is_in s.alive r.source) → 0 < slice_index s.counts r.source
-some_left k rows r left s h living = elim (eqb_tells r.source r.source) [
-  | inl (is, same) ↦ omega (arith, h.counted r.source living, times_here r left r.source is)
-  | inr (is, apart) ↦ absurd (apart refl)
-]
 
 -- ---- the start
 

@@ -1,5 +1,5 @@
 -- The digits of a number, one after the other.
-use Rattle.std.proofs.Common.{◌≡◌, ℕ, ◌+◌, ◌-◌, ◌*◌, ◌<◌, ◌≤◌, ◌^◌, Bool, true, false, cond, List, [], ◌∷◌, ◌++◌, length, take, drop, refl, sym, ap, ◌∙◌, arith, get_or}
+use Rattle.std.proofs.Common.{[], ◌≡◌, ℕ, ◌+◌, ◌-◌, ◌*◌, ◌<◌, ◌≤◌, ◌^◌, Bool, true, false, cond, List, ◌∷◌, ◌++◌, length, take, drop, refl, sym, ap, ◌∙◌, arith, get_or}
 use Rattle.std.specs.Prelude.{◌==◌, ◌≢◌, Option, Some, None, nat_lt}
 use Rattle.std.specs.Char.{is_ascii_digit}
 use Rattle.std.specs.List.{fold, AllByRecursion}
@@ -103,11 +103,6 @@ weight_takes s bytes m free at h =
     let new : weight_put m s ≡ record s { weight = m } = back (record s { weight = m }) Weight free at in
     record { taken = λ w. sym new ∙ sym (taken Weight weight_put weight_field w bytes s.weight m s h) ∙ ap (λ t. fold (next_byte w) t bytes) old; inside = none_ends bytes s.weight m h }
 
-pub takes_none : (s : Scan) (piece : List ℕ) (from : ℕ) → TakesDigits s s (bytes_between piece from from)
-takes_none s piece from =
-    let none : from - from ≡ 0 = omega arith in
-    rw none (record { taken = λ w. refl; inside = tt })
-
 -- ---- the run of digits
 
 digits_push_at : (n b : ℕ) (bs : List ℕ) (c m : ℕ) (o : Option ℕ) → with_digit n b ≡ o → on_some o (λ k. with_digits k bs) ≡ Some m → (k : ℕ) → with_digit m c ≡ Some k →
@@ -118,9 +113,6 @@ digits_push_at n b bs c m (Some j) e h k more rest = rest j h
 digits_push : (bs : List ℕ) (n c m k : ℕ) → with_digits n bs ≡ Some m → with_digit m c ≡ Some k → with_digits n (bs ++ c ∷ []) ≡ Some k
 digits_push [] n c m k h more = let same : n ≡ m = cc in ap (λ x. on_some (with_digit x c) (λ j. Some j)) same ∙ ap (λ o. on_some o (λ j. Some j)) more
 digits_push (b ∷ bs) n c m k h more = digits_push_at n b bs c m (with_digit n b) refl h k more (λ j rest. digits_push bs j c m k rest more)
-
-pub run_none : (n : ℕ) (piece : List ℕ) (from : ℕ) → with_digits n (bytes_between piece from from) ≡ Some n
-run_none n piece from = let none : from - from ≡ 0 = omega arith in rw none refl
 
 pub run_more : (n : ℕ) (piece : List ℕ) (from end m k : ℕ) → from ≤ end → end < length piece → with_digits n (bytes_between piece from end) ≡ Some m → with_digit m (get_or piece end 0) ≡ Some k →
     with_digits n (bytes_between piece from (end + 1)) ≡ Some k

@@ -24,6 +24,10 @@ pub record IsSmall (e : IdEdge) : Type 0 where
   pub target : e.target < 2 ^ 32
   pub weight : e.weight < 2 ^ 32
 
+-- both ends are vertices
+abbrev pub IsBetween : ℕ → Edge → Type 0
+IsBetween n e = (e.source < n) × (e.target < n)
+
 -- both ends are vertices, and the weight is within its limit
 abbrev IsInside : ℕ → Edge → Type 0
 IsInside n e = (e.source < n) × (e.target < n) × IsWeight e.weight
@@ -137,6 +141,20 @@ place_inside ids x rising (k, below, is) =
     let at : k ≡ place_of ids x = place_is ids x k rising below here in
     omega (arith, at, below)
 
+-- an edge by position is one by ids
+edge_from : (edges : List IdEdge) (list : EdgeList) (e : Edge) → IsEdgeListOf edges list → Contains list.edges e → (a : IdEdge) × Contains edges a × (placed_edge list.ids a ≡ e)
+edge_from edges list e of listed = mapped_from (placed_edge list.ids) edges e (subst (λ (l : List Edge). Contains l e) of.placed listed)
+
+-- both ends of each edge are vertices
+pub ends_below : (edges : List IdEdge) (list : EdgeList) → IsEdgeListOf edges list → All (IsBetween (length list.ids)) list.edges
+ends_below edges list of = of_members (IsBetween (length list.ids)) list.edges (λ e listed.
+    let from : (a : IdEdge) × Contains edges a × (placed_edge list.ids a ≡ e) = edge_from edges list e of listed in
+    let ends = ends_listed edges from.0 from.1 in
+    subst (IsBetween (length list.ids)) from.2 (
+      place_inside list.ids from.0.source of.rising ((of.members from.0.source).1 ends.0),
+      place_inside list.ids from.0.target of.rising ((of.members from.0.target).1 ends.1),
+    ))
+
 -- ---- the list
 
 list_fits : (edges : List IdEdge) (list : EdgeList) → AreFew (2 ^ 24) edges → distinct_count (ends_of edges) ≤ 2 ^ 22 → IsEdgeListOf edges list → EdgeListFits list
@@ -145,12 +163,9 @@ list_fits edges list are few of = record {
   lines = omega (arith, are.few, ap length of.placed, length-map edges (placed_edge list.ids));
   ids = of_members (λ id. id < 2 ^ 32) list.ids (λ id listed. ends_small edges id small ((of.members id).0 listed));
   ends = of_members (IsInside (length list.ids)) list.edges (λ e listed.
-      let from : (a : IdEdge) × Contains edges a × (placed_edge list.ids a ≡ e) = mapped_from (placed_edge list.ids) edges e (subst (λ (l : List Edge). Contains l e) of.placed listed) in
-      let ends = ends_listed edges from.0 from.1 in
-      let small_one : IsSmall from.0 = of_member IsSmall edges from.0 are.small from.1 in
-      let source : place_of list.ids from.0.source < length list.ids = place_inside list.ids from.0.source of.rising ((of.members from.0.source).1 ends.0) in
-      let target : place_of list.ids from.0.target < length list.ids = place_inside list.ids from.0.target of.rising ((of.members from.0.target).1 ends.1) in
-      subst (IsInside (length list.ids)) from.2 (source, target, small_one.weight));
+      let from : (a : IdEdge) × Contains edges a × (placed_edge list.ids a ≡ e) = edge_from edges list e of listed in
+      let both : IsBetween (length list.ids) e = of_member (IsBetween (length list.ids)) list.edges e (ends_below edges list of) listed in
+      (both.0, both.1, subst (λ (x : Edge). IsWeight x.weight) from.2 (of_member IsSmall edges from.0 are.small from.1).weight));
 }
   where
     small : AllByRecursion IsSmall edges

@@ -1,5 +1,5 @@
 -- The lines of a text, and of a longer one.
-use Rattle.std.proofs.Common.{◌≡◌, ℕ, suc, ◌+◌, ◌≤◌, Bool, true, false, cond, List, [], ◌∷◌, ◌++◌, length, refl, sym, ap, ◌∙◌, arith, append-nil, length-append}
+use Rattle.std.proofs.Common.{[], ◌≡◌, ℕ, suc, ◌+◌, ◌≤◌, Bool, true, false, cond, List, ◌∷◌, ◌++◌, length, refl, sym, ap, ◌∙◌, arith, append-nil, length-append}
 use Rattle.std.specs.Prelude.{◌==◌, ◌≢◌}
 use Rattle.std.proofs.lemmas.Bool.{ne_eqb}
 use Rattle.px_base.specs.Lines.{pieces_at, in_front, has_bytes, without_empty_end, lines_of}
@@ -55,9 +55,6 @@ some_piece test (x ∷ xs) = some_at test x (pieces_at test xs) (test x)
 -- all pieces but the last stay, and the last goes on
 abbrev pub pieces_longer : List (List ℕ) → List (List ℕ) → List (List ℕ)
 pieces_longer ps more = without_last ps ++ joined_to (last_of ps) more
-
-joined_nothing : (q : List ℕ) (qs : List (List ℕ)) → joined_to [] (q ∷ qs) ≡ q ∷ qs
-joined_nothing q qs = refl
 
 front_joined : (x : ℕ) (p : List ℕ) (more : List (List ℕ)) → in_front x (joined_to p more) ≡ joined_to (x ∷ p) more
 front_joined x p [] = refl

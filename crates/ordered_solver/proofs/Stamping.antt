@@ -1,6 +1,6 @@
 -- The table of stamps tells which numbers below the row's length are among its edge values.
 use Rattle.std.proofs.Common.{◌≡◌, ℕ, ◌+◌, ◌<◌, ◌≤◌, ◌≢◌, true, false, List, length, get_or, set, take, sym, ◌∙◌, ap, arith, inl, inr}
-use Rattle.std.specs.Prelude.{◌==◌, ◌||◌, All, Any, Contains}
+use Rattle.std.specs.Prelude.{◌==◌, ◌||◌, Any, Contains}
 use Rattle.std.proofs.Math.Bool.{or-true, or-false}
 use Rattle.std.proofs.lemmas.Bool.{cases_lt, eq-eqb, eqb-true, ne_eqb}
 use Rattle.std.proofs.lemmas.Bool.Decides.{eqb_tells}
@@ -14,9 +14,6 @@ use Rattle.value_laws.specs.GatherLaws.{among}
 -- the places below the limit have the stamp just where their number is among the items
 abbrev pub Marks : ℕ → ℕ → List ℕ → List ℕ → Type 0
 Marks limit stamp stamps items = (k : ℕ) → k < limit → (get_or stamps k 0 == stamp) ≡ is_listed items k
-
-pub none_marked : (limit stamp : ℕ) (stamps : List ℕ) → limit ≤ length stamps → All (λ s. s < stamp) stamps → Marks limit stamp stamps (take 0 stamps)
-none_marked limit stamp stamps room fresh = λ k below. ne_eqb (get_or stamps k 0) stamp (λ same. omega (arith, fresh k 0 (omega arith), same))
 
 -- one edge value more, which is below the limit
 pub marked_more : (limit stamp : ℕ) (stamps items : List ℕ) (i : ℕ) → i < length items → limit ≤ length stamps → get_or items i 0 < limit →

@@ -1,12 +1,12 @@
 -- Paths and chains by position are those by ids.
-use Rattle.std.proofs.Common.{◌≡◌, ℕ, suc, ◌<◌, Bool, true, false, ◌&&◌, ◌||◌, List, [], ◌∷◌, length, get_or, refl, sym, ap, ◌∙◌, subst, arith, inl, inr}
+use Rattle.std.proofs.Common.{◌≡◌, ℕ, suc, ◌<◌, Bool, true, false, ◌&&◌, ◌||◌, List, [], ◌∷◌, length, refl, sym, ap, ◌∙◌, subst, arith, inl, inr}
 use Rattle.std.specs.Prelude.{◌==◌, ◌↔◌, ◌⊎◌, Any, Contains, slice_index}
 use Rattle.std.specs.List.{list_any}
 use Rattle.std.specs.List.Sorted.{IsStrictlyIncreasing}
-use Rattle.std.proofs.lemmas.Bool.{and_parts, cases_lt, eq-eqb, eqb-true, ne_eqb}
+use Rattle.std.proofs.lemmas.Bool.{and_parts, cases_lt, eqb-true}
 use Rattle.std.proofs.lemmas.Bool.Decides.{nat_tests}
 use Rattle.std.proofs.lemmas.List.Folds.{Any-from_list_any, list_any_at}
-use Rattle.std.proofs.lemmas.List.Sums.{passes_at_first, position_or_len_is}
+use Rattle.std.proofs.lemmas.List.Sums.{passes_at_first}
 use Rattle.px_base.specs.declared.graph.Edge.{Edge}
 use Rattle.px_base.specs.declared.graph.EdgeList.{EdgeList}
 use Rattle.px_base.specs.Values.{is_listed, place_of}
@@ -18,7 +18,8 @@ use Rattle.value_laws.specs.GatherLaws.{among}
 use Rattle.path_laws.specs.ByIds.{AreConnected, AreJoined, IsIdChain, IsIdPath, IsIdRise, IsIdSourcePath}
 use Rattle.path_laws.specs.Paths.{IsChain, IsConnected, IsPath, IsRisingChain, IsSourcePath}
 use Rattle.path_laws.proofs.Edges.{IsInside, edge_with}
-use Rattle.px_base.proofs.Members.{mapped, mapped_from, of_member}
+use Rattle.px_base.proofs.Members.{listed_contains, mapped, mapped_from, of_member}
+use Rattle.edge_reader.proofs.PlacedEnds.{place_is}
 
 abbrev id_edge : ℕ → ℕ → ℕ → IdEdge
 id_edge a b w = record { source = a; target = b; weight = w }
@@ -29,15 +30,7 @@ pub at_place : (ids : List ℕ) (a : ℕ) → place_of ids a < length ids → sl
 at_place ids a below = eqb-true (slice_index ids (place_of ids a)) a (passes_at_first (λ y. y == a) ids 0 below)
 
 pub place_at : (ids : List ℕ) (u : ℕ) → IsStrictlyIncreasing ids → u < length ids → place_of ids (slice_index ids u) ≡ u
-place_at ids u rising below =
-    position_or_len_is (λ y. y == slice_index ids u) ids u 0 (omega arith)
-    (λ k before. ne_eqb (get_or ids k 0) (slice_index ids u) (λ e. omega (arith, rising_apart ids rising k u before below, e)))
-    (λ here. eq-eqb (slice_index ids u) (slice_index ids u) refl)
-
-listed_member : (items : List ℕ) (k : ℕ) → is_listed items k ≡ true → Contains items k
-listed_member items k h =
-    let found : Any (λ x. (x == k) ≡ true) items = Any-from_list_any (λ x. x == k) items h in
-    subst (λ (x : ℕ). Contains items x) (eqb-true found.1 k found.4) (found.0, found.2, found.3)
+place_at ids u rising below = sym (place_is ids (slice_index ids u) u rising below refl)
 
 -- ---- edges
 
@@ -85,12 +78,12 @@ begins_inside list u v (w ∷ weights) fits inside (next, edge, rest) = (inside_
 -- a source by position is one by its id
 source_by_id : (ids sources : List ℕ) (u : ℕ) → u < length ids → is_listed (positions_of ids sources) u ≡ true → is_listed sources (slice_index ids u) ≡ true
 source_by_id ids sources u inside listed =
-    let from : (a : ℕ) × Contains sources a × (place_of ids a ≡ u) = mapped_from (place_of ids) sources u (listed_member (positions_of ids sources) u listed) in
+    let from : (a : ℕ) × Contains sources a × (place_of ids a ≡ u) = mapped_from (place_of ids) sources u (listed_contains (positions_of ids sources) u listed) in
     let same : from.0 ≡ slice_index ids u = sym (at_place ids from.0 (omega (arith, from.2, inside))) ∙ ap (slice_index ids) from.2 in
     among sources (slice_index ids u) (subst (λ (a : ℕ). Contains sources a) same from.1)
 
 source_by_place : (ids sources : List ℕ) (a : ℕ) → is_listed sources a ≡ true → is_listed (positions_of ids sources) (place_of ids a) ≡ true
-source_by_place ids sources a listed = among (positions_of ids sources) (place_of ids a) (mapped (place_of ids) sources a (listed_member sources a listed))
+source_by_place ids sources a listed = among (positions_of ids sources) (place_of ids a) (mapped (place_of ids) sources a (listed_contains sources a listed))
 
 pub source_paths : (edges : List IdEdge) (list : EdgeList) (sources : List ℕ) (v : ℕ) (weights : List ℕ) → IsEdgeListOf edges list → EdgeListFits list → v < length list.ids →
     IsSourcePath list.edges (positions_of list.ids sources) v weights ↔ IsIdSourcePath edges sources (slice_index list.ids v) weights

@@ -1,7 +1,7 @@
 -- What every step of a world of values keeps: its part fits, and there is a value for each master and mirror.
-use Rattle.std.proofs.Common.{◌≡◌, ℕ, zero, suc, ◌+◌, ◌-◌, ◌<◌, ◌≤◌, ◌∙◌, Bool, true, false, min, List, [], ◌∷◌, length, get_or, refl, arith, inl, inr}
-use Rattle.std.specs.Prelude.{◌==◌, All, filter, ◌||◌, slice_index, if◌then◌else◌, Option, None, Some, Ok, Err, map, replicate}
-use Rattle.std.proofs.lemmas.List.{get_or-map, length-map, length-replicate, get_or-replicate}
+use Rattle.std.proofs.Common.{[], ◌≡◌, ℕ, zero, suc, ◌+◌, ◌-◌, ◌<◌, ◌≤◌, ◌∙◌, Bool, true, false, min, List, ◌∷◌, length, get_or, arith, inl, inr}
+use Rattle.std.specs.Prelude.{◌==◌, All, slice_index, if◌then◌else◌, map, replicate}
+use Rattle.std.proofs.lemmas.List.{length-map, length-replicate, get_or-replicate}
 use Rattle.std.proofs.lemmas.Grind.{common_steps}
 use Rattle.std.proofs.lemmas.List.Sums.{get_or-le-sum_by}
 use Rattle.std.proofs.lemmas.Bool.{cases_lt}
@@ -19,9 +19,8 @@ use Rattle.px_base.specs.Core.{core_edge_value, core_pull}
 use Rattle.px_base.specs.Parts.{PartFits}
 use Rattle.px_base.specs.Pulls.{known_value, master_pull}
 use Rattle.px_base.specs.Rules.{least, mex, first_absent}
-use Rattle.px_base.specs.Worlds.{ValueWorld, ValueWorldFits, CarriesValues, updates_in, new_value_world, World, of_values, StepOutcome, Refusal, refusal_of}
-use Rattle.px_base.specs.ValueSteps.{newest_value, updated_mirrors, renewed_value, renewed_masters, order_outcome, announcements, has_changed}
-use Rattle.px_base.specs.WorldSteps.{world_step, map_outcome}
+use Rattle.px_base.specs.Worlds.{ValueWorld, ValueWorldFits, CarriesValues, updates_in, new_value_world}
+use Rattle.px_base.specs.ValueSteps.{newest_value, updated_mirrors, renewed_value, renewed_masters, order_outcome}
 use Rattle.px_base.proofs.Gathers.{least_below_start}
 use Rattle.px_base.proofs.Positions.{length_by_position, at_position}
 
@@ -103,24 +102,7 @@ at_any_place values k known = elim (cases_lt k (length values)) [ inl inside ↦
     nothing_there : (values : List ℕ) (k : ℕ) → length values ≤ k → get_or values k 0 ≡ 0
     nothing_there values k past = grind (arith, common_steps)
 
--- what a step announces are values
-pub announcements_carry : (all : Bool) (part : Part) (before after : List ℕ) → All IsValue after → CarriesValues (announcements all part before after)
-announcements_carry all part before after known = λ k d below.
-    (let vertices : List ℕ = filter (λ v. all || has_changed before after (v - part.low)) part.boundary in
-    let announced : ℕ → Update = λ v. record { vertex = v; value = slice_index after (v - part.low) } in
-    let inside : k < length vertices = omega (arith, below, length-map vertices announced) in
-    rw (get_or-map announced vertices k 0 d inside) (at_any_place after (get_or vertices k 0 - part.low) known))
-
 -- ---- the world
-
--- a step keeps the part and the program
-pub step_keeps_part : (w : ValueWorld) (order : Order) → (order_outcome w order).world.part ≡ w.part
-step_keeps_part w (Step epoch round updates) = refl
-step_keeps_part w (Report epoch) = refl
-
-pub step_keeps_core : (w : ValueWorld) (order : Order) → (order_outcome w order).world.core ≡ w.core
-step_keeps_core w (Step epoch round updates) = refl
-step_keeps_core w (Report epoch) = refl
 
 -- a world that fits still fits after any order that carries values
 pub step_fits : (w : ValueWorld) (order : Order) → read_count w.part.rows ≤ TOP → ValueWorldFits w → CarriesValues (updates_in order) → ValueWorldFits (order_outcome w order).world
@@ -133,28 +115,6 @@ step_fits w (Step epoch round updates) short fits each =
       mirrors = updated_fit w.part.mirrors updates (length w.part.mirrors) w.mirrors each fits.mirrors;
     }
 step_fits w (Report epoch) short fits each = fits
-
--- What a step leaves of a world of values: another one of the same part and program, which fits.
-pub record StepKeeps (w : ValueWorld) (after : World) : Type 0 where
-  pub next : ValueWorld
-  pub is : after ≡ of_values next
-  pub part : next.part ≡ w.part
-  pub core : next.core ≡ w.core
-  pub fits : ValueWorldFits next
-
-pub world_step_keeps : (w : ValueWorld) (order : Order) (outcome : StepOutcome World) → read_count w.part.rows ≤ TOP → ValueWorldFits w → CarriesValues (updates_in order) →
-    world_step (of_values w) order ≡ Ok outcome → StepKeeps w outcome.world
-world_step_keeps w order outcome short fits each is = by_refusal (refusal_of w.epoch (is_listed w.part.mirrors) order) is
-  where
-    by_refusal : (r : Option Refusal) → map_outcome of_values (elim r [ None ↦ Ok (order_outcome w order) | Some refusal ↦ Err refusal ]) ≡ Ok outcome → StepKeeps w outcome.world
-    by_refusal None e = record {
-      next = (order_outcome w order).world;
-      is = cc;
-      part = step_keeps_part w order;
-      core = step_keeps_core w order;
-      fits = step_fits w order short fits each;
-    }
-    by_refusal (Some refusal) e = cc
 
 zeros_fit : (n : ℕ) → IsValueList n (replicate n 0)
 zeros_fit n = record { one_each = length-replicate n 0; in_range = λ k d below. (let inside : k < n = omega (arith, below, length-replicate {A = ℕ} n 0) in rw (get_or-replicate n k 0 d inside) (omega arith)) }

@@ -7,13 +7,7 @@ use Rattle.px_base.specs.declared.program.Along.TheVariants.{Plus}
 use Rattle.px_base.specs.declared.program.Fold.TheVariants.{Least}
 use Rattle.px_base.specs.declared.program.Own.TheVariants as own
 use Rattle.px_base.specs.declared.program.Program.{Program}
-use Rattle.px_base.specs.declared.program.CoreProgram.{CoreProgram}
-use Rattle.px_base.specs.Core.{core_form}
 
 -- Each vertex's distance from the nearest source, in edges: 0 at a source, and one more than at the nearest vertex read.
 abbrev pub bfs : Program
 bfs = record { form = Given; reads = reads_kind.All; start = Source 0 TOP; along = Plus 1; fold = Least; own = own.Keep }
-
--- the same in core values
-abbrev pub bfs_core : CoreProgram
-bfs_core = core_form bfs

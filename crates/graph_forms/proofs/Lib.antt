@@ -1,4 +1,4 @@
-pub mod Filled
+pub mod Counting
 pub mod Made
 pub mod Members
 pub mod Sets

@@ -1,9 +1,16 @@
--- Neighbours that are collected from edges.
-use Rattle.std.specs.Prelude.{◌≡◌, ℕ, Bool, true, List, [], ◌∷◌, All, Contains, ◌==◌, map, if◌then◌else◌}
+-- What is collected from edges.
+use Rattle.std.specs.Prelude.{◌≡◌, ℕ, Bool, true, false, List, [], ◌∷◌, All, Contains, ◌==◌, map, if◌then◌else◌}
 use Rattle.std.specs.List.Sorted.{IsStrictlyIncreasing}
 use Rattle.px_base.specs.declared.graph.Edge.{Edge}
 use Rattle.px_base.specs.declared.graph.Read.{Read}
+use Rattle.px_base.specs.declared.program.Form.{Form}
+use Rattle.px_base.specs.declared.program.Form.TheVariants.{Given, Back}
 use Rattle.px_base.specs.Graphs.{unit_read}
+
+-- the form in which each target reads its source or, turned round, each source its target
+abbrev pub form_of : Bool → Form
+form_of false = Given
+form_of true = Back
 
 -- the end of the edge that v gets to read: none where the edge is a loop, or v is no end of it
 abbrev pub other_end : Edge → ℕ → List ℕ

@@ -1,9 +1,9 @@
 ghost use Rattle.std.specs.Prelude.{◌≡◌, ◌≤◌, ◌<◌, ◌^◌, ◌*◌, ℕ, All, IfOk, [], length, map, slice_index_or, sum_by};
 ghost use Rattle.px_base.specs.Graphs.{IsGraphOf, IsRowOf, RowsFit, is_neighbour, kept_reads, read_count, reads_of, row_at};
 ghost use Rattle.px_base.specs.Values.{IsWeight, by_position};
-ghost use Rattle.graph_forms.specs.Neighbours.{HasMembers};
+ghost use Rattle.graph_forms.specs.Neighbours.{HasMembers, form_of};
 
-use crate::fill::{fill_back, fill_given};
+use crate::fill::fill_rows;
 use crate::neighbours::{fill_neighbours, unit_rows};
 use crate::order::{given_away, order_rows, row_lengths};
 use crate::room::{empty_rows, room_needed};
@@ -11,34 +11,24 @@ use crate::row::Row;
 use px_base::{Edge, EdgeList, Form, Items, Memory, Pos, Read, ReadGraph, Reads};
 use std::alloc::Global;
 
-/// Rows of what each target reads.
-fn given_rows(alloc: Global, counts: &[u32], edges: &[Edge]) -> Result<Vec<Row<Read>>, Memory>
-    requires ends { All (λ e. e.target < length counts.now) edges.now }
-    ensures reads { IfOk result (λ rows. rows.items ≡ by_position (length counts.now) (reads_of Form.Given (length counts.now) edges.now)) }
-    ensures count { IfOk result (λ rows. read_count rows.items ≤ 2 * length edges.now) }
+/// Rows of what each target reads or, turned round, each source.
+fn read_rows(
+    alloc: Global,
+    counts: &[u32],
+    back: bool,
+    edges: &[Edge],
+) -> Result<Vec<Row<Read>>, Memory>
+    ensures reads { IfOk result (λ rows. rows.items ≡ by_position (length counts.now) (reads_of (form_of back) (length counts.now) edges.now)) }
 {
     let mut rows = empty_rows(alloc, counts)?;
-    fill_given(&mut rows, edges)?;
-    Ok(rows)
-}
-
-/// Rows of what each source reads.
-fn back_rows(alloc: Global, counts: &[u32], edges: &[Edge]) -> Result<Vec<Row<Read>>, Memory>
-    requires ends { All (λ e. e.source < length counts.now) edges.now }
-    ensures reads { IfOk result (λ rows. rows.items ≡ by_position (length counts.now) (reads_of Form.Back (length counts.now) edges.now)) }
-    ensures count { IfOk result (λ rows. read_count rows.items ≤ 2 * length edges.now) }
-{
-    let mut rows = empty_rows(alloc, counts)?;
-    fill_back(&mut rows, edges)?;
+    fill_rows(&mut rows, back, edges)?;
     Ok(rows)
 }
 
 /// Rows of neighbours, in the order of the edges and as often as an edge names them.
 fn neighbour_rows(alloc: Global, counts: &[u32], edges: &[Edge]) -> Result<Vec<Row<Pos>>, Memory>
-    requires ends { All (λ e. (e.source < length counts.now) × (e.target < length counts.now)) edges.now }
     ensures one_each { IfOk result (λ rows. length rows.items ≡ length counts.now) }
     ensures members { IfOk result (λ rows. (v : ℕ) → v < length counts.now → HasMembers (is_neighbour edges.now v) (slice_index_or rows.items v [])) }
-    ensures count { IfOk result (λ rows. sum_by (λ row. length row) rows.items ≤ 2 * length edges.now) }
 {
     let mut rows = empty_rows(alloc, counts)?;
     fill_neighbours(&mut rows, edges)?;
@@ -49,7 +39,6 @@ fn neighbour_rows(alloc: Global, counts: &[u32], edges: &[Edge]) -> Result<Vec<R
 fn simple_rows(alloc: Global, counts: &[u32], edges: &[Edge]) -> Result<Vec<Row<Read>>, Memory>
     requires ends { All (λ e. (e.source < length counts.now) × (e.target < length counts.now)) edges.now }
     ensures reads { IfOk result (λ rows. rows.items ≡ by_position (length counts.now) (reads_of Form.Simple (length counts.now) edges.now)) }
-    ensures count { IfOk result (λ rows. read_count rows.items ≤ 2 * length edges.now) }
 {
     let neighbours = neighbour_rows(alloc, counts, edges)?;
     let rows = unit_rows(alloc, neighbours)?;
@@ -65,12 +54,11 @@ fn unordered_rows(
 ) -> Result<Vec<Row<Read>>, Memory>
     requires ends { All (λ e. (e.source < n) × (e.target < n) × IsWeight e.weight) edges.now }
     ensures reads { IfOk result (λ rows. rows.items ≡ by_position n (reads_of form n edges.now)) }
-    ensures count { IfOk result (λ rows. read_count rows.items ≤ 2 * length edges.now) }
 {
     let counts = room_needed(alloc, n, form, edges)?;
     match form {
-        Form::Given => given_rows(alloc, &counts, edges),
-        Form::Back => back_rows(alloc, &counts, edges),
+        Form::Given => read_rows(alloc, &counts, false, edges),
+        Form::Back => read_rows(alloc, &counts, true, edges),
         Form::Simple => simple_rows(alloc, &counts, edges),
     }
 }
@@ -83,7 +71,6 @@ fn graph_of(alloc: Global, mut rows: Vec<Row<Read>>, reads: Reads) -> Result<Rea
     ensures one_each { IfOk result (λ graph. length graph.rows ≡ length rows.items) }
     ensures degrees { IfOk result (λ graph. graph.degrees ≡ map (λ row. length row) rows.items) }
     ensures rows { IfOk result (λ graph. (v : ℕ) → v < length rows.items → IsRowOf (kept_reads reads graph.degrees v (row_at rows.items v)) (row_at graph.rows v)) }
-    ensures count { IfOk result (λ graph. read_count graph.rows ≤ read_count rows.items) }
 {
     let n = rows.len() as u32;
     let degrees = row_lengths(alloc, &rows)?;

@@ -1,6 +1,7 @@
 //! The graph that a list of edges makes: who reads whom, and which vertex stands first.
 #![tactic(auto)]
 
+mod blocks;
 mod fill;
 mod graph;
 mod neighbours;

@@ -21,7 +21,6 @@ pub fn row_lengths(alloc: Global, rows: &[Row<Read>]) -> Result<Vec<u32>, Memory
 pub fn order_rows(rows: &mut [Row<Read>], degrees: &[u32], reads: Reads)
     requires { length rows.old ≤ 2 ^ 22 }
     ensures rows { (v : ℕ) → v < length rows.old → IsRowOf (kept_reads reads degrees.now v (row_at rows.old v)) (row_at rows.new v) }
-    ensures fewer { read_count rows.new ≤ read_count rows.old }
 {
     for (v, row) in rows.iter_mut().enumerate() {
         row.keep(reads, degrees, v as Pos);

@@ -71,7 +71,6 @@ impl Row<Read> {
     /// Leaves out the reads of v that are not kept.
     pub fn keep(&mut self, reads: Reads, degrees: &[u32], v: Pos)
         ensures kept { self.new ≡ kept_reads reads degrees.now v self.old }
-        ensures fewer { length self.new ≤ length self.old }
     {
         match reads {
             Reads::All => {}
@@ -82,7 +81,6 @@ impl Row<Read> {
     /// Puts the reads in order, by source and then weight.
     pub fn sort(&mut self)
         ensures row { IsRowOf self.old self.new }
-        ensures as_many { length self.new ≡ length self.old }
     {
         self.items.sort_unstable();
     }
@@ -90,7 +88,6 @@ impl Row<Read> {
 
 /// Leaves out the reads whose source does not stand before v.
 fn keep_earlier(reads: &mut Vec<Read>, rank: Rank, degrees: &[u32], v: Pos)
-    ensures fewer { vec_len reads.new ≤ vec_len reads.old }
     ensures kept { reads.new.items ≡ filter (λ r. stands_before rank degrees.now r.source v) reads.old.items }
 {
     reads.retain(move |read| stands_before(rank, degrees, read.source, v));

@@ -13,7 +13,7 @@ use Rattle.px_base.specs.Answers.{IsAnswer}
 use Rattle.px_base.specs.RowTexts.{IsRowProgram}
 use Rattle.px_base.specs.Starts.{first_unknown, positions_of, starts_of}
 use Rattle.px_base.specs.Text.{answer_text}
-use Rattle.edge_reader.proofs.InputFits.{input_fits}
+use Rattle.edge_reader.proofs.InputFits.{ends_below, input_fits}
 use Rattle.graph_forms.proofs.Made.{rows_fit}
 use Rattle.program_table.proofs.StartLists.{row_start_is_value, starts_are_values}
 use Rattle.answers.proofs.ByClass.{exists}
@@ -26,11 +26,11 @@ use Rattle.command_texts.specs.Texts.{class_text, parts_text, IsPartsText}
 use Rattle.command_texts.specs.Endings.{Ending, stopped, answered, classified, parted, after_edges, after_input, after_lookup, edge_fault, ending_of, IsEndingText}
 use Rattle.command_texts.proofs.Solved.{by_input}
 use Rattle.one_text.proofs.Building.{graph_of, has_graph}
-use Rattle.one_text.proofs.Counting.{few_reads}
+use Rattle.graph_forms.proofs.Counting.{few_reads}
 use Rattle.one_text.proofs.Ids.{one_list}
 use Rattle.one_text.proofs.Listing.{list_of, has_list}
 use Rattle.one_text.proofs.Rows.{one_graph}
-use Rattle.one_text.proofs.Texts.{built_on, ends_below, one_text}
+use Rattle.one_text.proofs.Texts.{built_on, one_text}
 
 -- ---- no second text
 

@@ -1,5 +1,4 @@
 pub mod Building
-pub mod Counting
 pub mod Endings
 pub mod Ids
 pub mod Listing

@@ -1,6 +1,7 @@
 use Rattle.std.proofs.Common.{◌≡◌, ◌∙◌, length, ap, arith}
-use Rattle.px_base.specs.Graphs.{IsGraphOf, reads_of}
+use Rattle.px_base.specs.Graphs.{IsGraphOf, read_count, reads_of}
 use Rattle.px_base.proofs.Positions.{length_by_position}
+use Rattle.graph_forms.proofs.Counting.{few_reads, few_row_reads}
 use Rattle.graph_forms.proofs.Made.{graph_made, rows_fit}
 use Rattle.graph_forms.proofs.graph.graph_of_edges.Goals as goal
 
@@ -18,3 +19,10 @@ pub graph_of-requires-clause-vertices : goal.graph_of-requires-clause-vertices
 graph_of-requires-clause-vertices c =
     let count : length c.in_ok-rows.rows.items ≡ c.args.n = ap length c.in_ok-rows.ensures.reads ∙ length_by_position c.args.n (reads_of c.args.form c.args.n c.args.edges.now) in
     omega arith
+
+pub graph_of-requires-clause-count : goal.graph_of-requires-clause-count
+graph_of-requires-clause-count c =
+    omega (arith, ap (λ rows. read_count rows) c.in_ok-rows.ensures.reads, few_row_reads c.args.form c.args.n c.args.edges.now)
+
+pub returns-clause-count : goal.returns-clause-count
+returns-clause-count c = few_reads c.args.form c.args.reads c.args.n c.args.edges.now c.in_ok-graph.graph (is_graph c)

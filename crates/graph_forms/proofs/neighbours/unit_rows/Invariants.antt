@@ -1,5 +1,4 @@
-use Rattle.std.proofs.Common.{◌≡◌, ℕ, ◌<◌, ◌≤◌, [], length, get_or, sum_by}
-use Rattle.px_base.specs.Graphs.{read_count}
+use Rattle.std.proofs.Common.{◌≡◌, ℕ, ◌<◌, [], length, get_or}
 use Rattle.graph_forms.specs.Neighbours.{ReadsMembers}
 use Rattle.graph_forms.proofs.neighbours.unit_rows.Given as goal
 
@@ -8,5 +7,4 @@ abbrev pub invariant-loop-row : goal.invariant-loop-row
 invariant-loop-row l = record {
   one_each : length l.rows.items ≡ length l.yielded;
   rows : (v : ℕ) → v < length l.yielded → ReadsMembers (get_or l.yielded v []) (get_or l.rows.items v []);
-  count : read_count l.rows.items ≤ sum_by (λ row. length row) l.yielded;
 }

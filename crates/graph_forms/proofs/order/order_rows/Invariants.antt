@@ -1,11 +1,10 @@
-use Rattle.std.proofs.Common.{◌≡◌, ◌≤◌, ℕ, ◌<◌}
-use Rattle.px_base.specs.Graphs.{IsRowOf, kept_reads, read_count, row_at}
+use Rattle.std.proofs.Common.{◌≡◌, ℕ, ◌<◌, ◌≤◌}
+use Rattle.px_base.specs.Graphs.{IsRowOf, kept_reads, row_at}
 use Rattle.graph_forms.proofs.order.order_rows.Given as goal
 
 -- the rows so far are in order, and the others are as they were
 abbrev pub invariant-loop-v : goal.invariant-loop-v
 invariant-loop-v l = record {
   done : (k : ℕ) → k < l.v → IsRowOf (kept_reads l.reads l.degrees k (row_at l.fn.rows k)) (row_at l.rows k);
-  fewer : read_count l.rows ≤ read_count l.fn.rows;
   rest : (k : ℕ) → l.v ≤ k → row_at l.rows k ≡ row_at l.fn.rows k;
 }

@@ -1,5 +1,5 @@
 use Rattle.one_text.proofs.Building.{graph_of, has_graph}
-use Rattle.one_text.proofs.Counting.{few_reads}
+use Rattle.graph_forms.proofs.Counting.{few_reads}
 use Rattle.one_text.proofs.Ids.{one_list}
 use Rattle.one_text.proofs.Listing.{list_of, has_list}
 use Rattle.one_text.proofs.Rows.{one_graph}

@@ -3,7 +3,8 @@ use Rattle.std.proofs.Common.{◌≡◌, ℕ, zero, suc, ◌+◌, ◌*◌, ◌<�
 use Rattle.std.specs.Prelude.{◌==◌, ◌&&◌, ◌||◌, not, filter, sum_by}
 use Rattle.std.specs.List.{list_any}
 use Rattle.std.proofs.lemmas.Bool.Decides.{eqb_tells}
-use Rattle.std.proofs.lemmas.List.{take_all, length-map}
+use Rattle.std.proofs.lemmas.List.{take_all, length-append, length-map}
+use Rattle.std.proofs.lemmas.List.Elements.{filter-append}
 use Rattle.std.proofs.lemmas.List.Sorted.{length_permutation}
 use Rattle.std.proofs.lemmas.List.Sums.{sum_by_more}
 use Rattle.px_base.specs.declared.graph.Edge.{Edge}
@@ -13,9 +14,10 @@ use Rattle.px_base.specs.declared.program.Form.{Form}
 use Rattle.px_base.specs.declared.program.Form.TheVariants.{Given, Back, Simple}
 use Rattle.px_base.specs.declared.program.Reads.{Reads}
 use Rattle.px_base.specs.declared.program.Reads.TheVariants as reads_kind
-use Rattle.px_base.specs.Values.{one_if, positions_below}
+use Rattle.px_base.specs.Values.{by_position, one_if, positions_below}
 use Rattle.px_base.specs.Graphs.{IsGraphOf, is_neighbour, joins, kept_reads, read_count, reads_of, read_of_source, read_of_target, row_at, stands_before, unit_read}
 use Rattle.px_base.proofs.Members.{range_suc}
+use Rattle.px_base.proofs.Positions.{at_position, length_by_position}
 
 -- ---- the sum of f at all numbers below n
 
@@ -68,12 +70,11 @@ once_right false c n = omega (arith, total_none (λ u. 0) n (λ u. refl))
 
 -- ---- lists by totals
 
+one_kept : (p : ℕ → Bool) (x : ℕ) → length (filter p (x ∷ [])) ≡ one_if (p x)
+one_kept p x = elim (p x) as (λ b. length (cond b (x ∷ []) []) ≡ one_if b) [ true ↦ refl | false ↦ refl ]
+
 filter_end : (p : ℕ → Bool) (xs : List ℕ) (x : ℕ) → length (filter p (xs ++ x ∷ [])) ≡ length (filter p xs) + one_if (p x)
-filter_end p [] x = elim (p x) as (λ b. length (cond b (x ∷ []) []) ≡ 0 + one_if b) [ true ↦ refl | false ↦ refl ]
-filter_end p (y ∷ ys) x = elim (p y) as (λ b. length (cond b (y ∷ filter p (ys ++ x ∷ [])) (filter p (ys ++ x ∷ []))) ≡ length (cond b (y ∷ filter p ys) (filter p ys)) + one_if (p x)) [
-  | true ↦ omega (arith, filter_end p ys x)
-  | false ↦ filter_end p ys x
-]
+filter_end p xs x = ap length (filter-append p xs (x ∷ [])) ∙ length-append (filter p xs) (filter p (x ∷ [])) ∙ ap (λ k. length (filter p xs) + k) (one_kept p x)
 
 count_is : (p : ℕ → Bool) (n : ℕ) → length (filter p (positions_below n)) ≡ total (λ u. one_if (p u)) n
 count_is p zero = refl
@@ -170,5 +171,18 @@ few_reads form reads n edges graph is =
       ap (total sizes) is.one_each,
       total_up sizes (λ v. length (reads_of form n edges v)) n
           (λ v below. omega (arith, length_permutation (kept_reads reads graph.degrees v (reads_of form n edges v)) (row_at graph.rows v) (is.rows v below).same, kept_fewer reads graph.degrees v (reads_of form n edges v))),
+      all_degrees form n edges,
+    )
+
+-- the rows of all reads hold as few
+pub few_row_reads : (form : Form) (n : ℕ) (edges : List Edge) → read_count (by_position n (reads_of form n edges)) ≤ 2 * length edges
+few_row_reads form n edges =
+    let rows : List (List Read) = by_position n (reads_of form n edges) in
+    let sizes : ℕ → ℕ = λ v. length (row_at rows v) in
+    omega (
+      arith,
+      rows_total rows,
+      ap (total sizes) (length_by_position n (reads_of form n edges)),
+      total_up sizes (λ v. length (reads_of form n edges v)) n (λ v below. omega (arith, ap (λ row. length row) (at_position n (reads_of form n edges) v [] below))),
       all_degrees form n edges,
     )

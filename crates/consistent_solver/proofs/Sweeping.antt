@@ -1,6 +1,6 @@
 -- What sweeps in place keep, and what they have found once nothing changes.
 use Rattle.std.proofs.Common.{◌≡◌, ℕ, ◌+◌, ◌<◌, ◌≤◌, ◌≢◌, ◌∙◌, min, Bool, true, false, List, [], ◌∷◌, length, get_or, set, refl, ap, arith, inl, inr, get_or-set_other, get_or-set_same}
-use Rattle.std.specs.Prelude.{All, Contains, slice_index, Ok}
+use Rattle.std.specs.Prelude.{◌⊎◌, All, Contains, slice_index, Ok}
 use Rattle.std.proofs.lemmas.List.{length-set, get_or-map, length-map, get_or_past}
 use Rattle.std.proofs.lemmas.List.Elements.{All-contains, All-from_recursion, All-map, All-set, Contains-get_or, recursion_from_All}
 use Rattle.std.proofs.lemmas.Bool.{cases_lt, cases_eq}
@@ -8,7 +8,7 @@ use Rattle.px_base.specs.declared.graph.Read.{Read}
 use Rattle.px_base.specs.declared.program.Program.{Program}
 use Rattle.px_base.specs.declared.program.CoreProgram.{CoreProgram}
 use Rattle.px_base.specs.declared.program.Class.TheVariants.{LocallyCorrecting}
-use Rattle.px_base.specs.Values.{IsValue, IsValueList}
+use Rattle.px_base.specs.Values.{IsValue, IsValueList, IsWeight}
 use Rattle.px_base.specs.Graphs.{RowsFit, row_at}
 use Rattle.px_base.specs.Classes.{class_of, is_mex}
 use Rattle.px_base.specs.Core.{core_edge_value, core_form}
@@ -16,7 +16,7 @@ use Rattle.px_base.specs.Answers.{IsGreatestConsistent}
 use Rattle.px_base.specs.Rules.{least}
 use Rattle.px_base.proofs.Gathers.{below_least, least_below_each, least_below_start}
 use Rattle.consistent_solver.specs.CoreLists.{IsBelow, IsCoreConsistent, IsGreatestCoreConsistent, gathered_at}
-use Rattle.consistent_solver.specs.Sweeps.{AreTold, IsLowered, IsMarked, IsSettled, IsSwept, core_edge_values, lowered_at}
+use Rattle.consistent_solver.specs.Sweeps.{AreTold, IsLowered, IsMarked, IsSettled, IsSwept, TellsNothing, core_edge_values, lowered_at}
 use Rattle.consistent_solver.proofs.Below.{least_gathered, gathered_grows, below_starts}
 use Rattle.consistent_solver.proofs.Placing.{read_inside}
 use Rattle.consistent_solver.proofs.Turning.{greatest_from, no_mex, turned}
@@ -90,16 +90,32 @@ none_swept core rows x marks values sized = record {
   none = λ h v low. absurd (omega arith);
 }
 
--- all are marked, so that nobody has to have heard of any
-pub all_marked : (core : CoreProgram) (rows : List (List Read)) (x : List ℕ) (marks : List Bool) → RowsFit (length rows) rows → IsValueList (length rows) x → length marks ≡ length rows → All (λ mark. mark ≡ true) marks →
+-- before the first sweep, where each has heard of those that aren't marked
+pub before_sweeps : (core : CoreProgram) (rows : List (List Read)) (x : List ℕ) (marks : List Bool) → RowsFit (length rows) rows → IsValueList (length rows) x → length marks ≡ length rows → AreTold core rows marks x →
     IsSwept core rows (length rows) x x marks true
-all_marked core rows x marks fit values sized all = record {
+before_sweeps core rows x marks fit values sized are = record {
   lowered = lowered_none core rows x values;
   one_each = sized;
-  told = λ u r low found. (
-      let source : r.source < length rows = All-contains (λ read. read.source < length rows) (row_at rows u) r (fit.sources u [] low) found in
-      inl (source, all r.source false (omega (arith, source, sized))));
+  told = λ u r low found. elim (are.each u r found) [
+    | inl marked ↦ inl (All-contains (λ read. read.source < length rows) (row_at rows u) r (fit.sources u [] low) found, marked)
+    | inr heard ↦ inr heard
+  ];
   none = λ h v low. absurd (let no : true ≡ false = h in cc);
+}
+
+-- in the beginning, where each that isn't marked tells nothing
+pub told_nothing : (core : CoreProgram) (rows : List (List Read)) (x : List ℕ) (marks : List Bool) → RowsFit (length rows) rows → IsValueList (length rows) x →
+    ((v : ℕ) → v < length rows → IsMarked marks v ⊎ TellsNothing core (slice_index x v)) → AreTold core rows marks x
+told_nothing core rows x marks fit values others = record {
+  each = λ u r found.
+      let inside : u < length rows = read_inside rows u r found in
+      let source : r.source < length rows = All-contains (λ read. read.source < length rows) (row_at rows u) r (fit.sources u [] inside) found in
+      let weight : IsWeight r.weight = All-contains (λ read. IsWeight read.weight) (row_at rows u) r (fit.weights u [] inside) found in
+      let value : IsValue (slice_index x u) = values.in_range u 0 (omega (arith, inside, values.one_each)) in
+      elim (others r.source source) [
+        | inl marked ↦ inl marked
+        | inr nothing ↦ inr (omega (arith, nothing r.weight weight, value))
+      ];
 }
 
 -- one sweep after others

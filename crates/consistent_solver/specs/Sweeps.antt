@@ -4,7 +4,8 @@
 use Rattle.std.specs.Prelude.{◌≡◌, ◌⊎◌, ℕ, ◌<◌, ◌≤◌, All, Bool, true, false, Contains, List, length, map, slice_index, slice_index_or}
 use Rattle.px_base.specs.declared.graph.Read.{Read}
 use Rattle.px_base.specs.declared.program.CoreProgram.{CoreProgram}
-use Rattle.px_base.specs.Values.{IsValueList}
+use Rattle.px_base.specs.declared.TheConstants.{TOP}
+use Rattle.px_base.specs.Values.{IsValueList, IsWeight}
 use Rattle.px_base.specs.Graphs.{row_at}
 use Rattle.px_base.specs.Rules.{least}
 use Rattle.px_base.specs.Core.{core_edge_value}
@@ -42,6 +43,10 @@ IsMarked marks v = slice_index_or marks v false ≡ true
 -- u has at most what it reads of v with the weight w
 abbrev pub HasHeard : CoreProgram → List ℕ → ℕ → ℕ → ℕ → Type 0
 HasHeard core x u v w = slice_index x u ≤ core_edge_value core (slice_index x v) w
+
+-- whatever the weight, a vertex with this value lowers no reader
+abbrev pub TellsNothing : CoreProgram → ℕ → Type 0
+TellsNothing core x = (w : ℕ) → IsWeight w → TOP ≤ core_edge_value core x w
 
 -- each vertex has at most what it reads of vertices that aren't marked
 pub record AreTold (core : CoreProgram) (rows : List (List Read)) (marks : List Bool) (x : List ℕ) : Type 0 where

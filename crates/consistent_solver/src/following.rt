@@ -1,13 +1,13 @@
-ghost use Rattle.std.specs.Prelude.{◌≡◌, ◌+◌, ◌<◌, ◌≤◌, All, IsFalse, OnOk, length, sum};
+ghost use Rattle.std.specs.Prelude.{◌≡◌, ◌⊎◌, ◌+◌, ◌<◌, ◌≤◌, ℕ, All, IfOk, IsFalse, OnOk, length, slice_index, sum};
 ghost use Rattle.px_base.specs.Values.{IsValue, IsValueList};
 ghost use Rattle.px_base.specs.Classes.{is_mex};
 ghost use Rattle.px_base.specs.Graphs.{RowsFit};
-ghost use Rattle.consistent_solver.specs.Sweeps.{AreTold, HasTold, IsSettled, IsWaitingList};
+ghost use Rattle.consistent_solver.specs.Sweeps.{AreTold, HasTold, IsMarked, IsSettled, IsWaitingList, TellsNothing};
 
 use crate::readers::{Reader, Readers};
 use crate::sweeps::sweep_some;
 use crate::waiting::Waiting;
-use px_base::{CoreProgram, Items, Memory, Read, Value};
+use px_base::{CoreProgram, Items, Memory, Read, TOP, Value};
 use std::alloc::Global;
 use value_laws::EdgeRule;
 
@@ -68,8 +68,29 @@ fn follow(
     Ok(())
 }
 
-/// Lowers values until each vertex has at most what it reads: by some sweeps, which is all where the vertices lie in a good
-/// order, and then by following the changes of the last sweep. Errors: want of memory.
+/// Marks those whose value may lower a reader's. TOP lowers none, where no edge makes a value better.
+fn tellers(alloc: Global, core: &CoreProgram, values: &[Value]) -> Result<Vec<bool>, Memory>
+    requires { All IsValue values.now }
+    ensures one_each { IfOk result (λ marks. length marks.items ≡ length values.now) }
+    ensures others { IfOk result (λ marks. (v : ℕ) → v < length values.now → IsMarked marks.items v ⊎ TellsNothing core.now (slice_index values.now v)) }
+{
+    let keeps_top = core.never_improves();
+    let marks = values
+        .iter()
+        .map(move |value| *value < TOP || !keeps_top)
+        .collect::<Vec<bool>>(alloc)?;
+    Ok(marks)
+}
+
+/// Whether so few are marked that it is quicker to follow them than to sweep over all. Either way is right, so no clause
+/// speaks of it.
+fn are_few(marks: &[bool]) -> bool {
+    marks.iter().filter(|mark| **mark).count() <= marks.len() / 16
+}
+
+/// Lowers values until each vertex has at most what it reads. Where few have something to tell in the beginning, these are
+/// followed. Else there are some sweeps, which is all where the vertices lie in a good order, and then the changes of the
+/// last sweep are followed. Errors: want of memory.
 pub fn settle(
     alloc: Global,
     core: &CoreProgram,
@@ -83,9 +104,12 @@ pub fn settle(
     requires fold { IsFalse (is_mex core.now.program.fold) }
     ensures { OnOk result (IsSettled core.now rows.now values.old values.new) }
 {
-    let mut fell = vec![in alloc; true; n as usize]?;
-    if sweep_some(core, rows, values, fell.as_mut_slice()) {
-        follow(alloc, core, n, rows, values, fell)?;
+    let mut marks = tellers(alloc, core, values)?;
+    if are_few(&marks) {
+        return follow(alloc, core, n, rows, values, marks);
+    }
+    if sweep_some(core, rows, values, marks.as_mut_slice()) {
+        follow(alloc, core, n, rows, values, marks)?;
     }
     Ok(())
 }

@@ -1,14 +1,14 @@
-ghost use Rattle.std.specs.Prelude.{◌≡◌, ◌<◌, All, IsFalse, length, true};
+ghost use Rattle.std.specs.Prelude.{◌≡◌, ◌<◌, All, IsFalse, length};
 ghost use Rattle.px_base.specs.Values.{IsValue, IsValueList, IsWeight};
 ghost use Rattle.px_base.specs.Classes.{is_mex};
 ghost use Rattle.px_base.specs.Graphs.{RowsFit};
 ghost use Rattle.px_base.specs.Rules.{least};
-ghost use Rattle.consistent_solver.specs.Sweeps.{core_edge_values, IsSwept};
+ghost use Rattle.consistent_solver.specs.Sweeps.{AreTold, core_edge_values, IsSwept};
 
 use px_base::{CoreProgram, Items, Read, Value};
 use value_laws::EdgeRule;
 
-/// How many sweeps are made at most. The table of readers costs as much as 7 to 10 sweeps over a graph without order.
+/// How many sweeps are made at most. The table of readers costs as much as several sweeps over a graph without order.
 const SWEEPS: usize = 12;
 
 /// The least of the vertex's own value and of all that it reads.
@@ -60,7 +60,7 @@ pub fn sweep_some(
     requires rows { RowsFit (length rows.now) rows.now }
     requires values { IsValueList (length rows.now) values.old }
     requires marks { length fell.old ≡ length rows.now }
-    requires all { All (λ mark. mark ≡ true) fell.old }
+    requires told { AreTold core.now rows.now fell.old values.old }
     requires fold { IsFalse (is_mex core.now.program.fold) }
     ensures { IsSwept core.now rows.now (length rows.now) values.old values.new fell.new result }
 {

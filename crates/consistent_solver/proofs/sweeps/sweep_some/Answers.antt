@@ -1,9 +1,9 @@
 use Rattle.std.proofs.Common.{rules, ◌≡◌, true, false}
-use Rattle.consistent_solver.proofs.Sweeping.{all_marked, swept_again}
+use Rattle.consistent_solver.proofs.Sweeping.{before_sweeps, swept_again}
 use Rattle.consistent_solver.proofs.sweeps.sweep_some.Goals as goal
 
 pub loop-turn-init : goal.loop-turn-init
-loop-turn-init c = all_marked c.args.core.now c.args.rows.now c.args.values.now c.args.fell.now c.requires.rows c.requires.values c.requires.marks c.requires.all
+loop-turn-init c = before_sweeps c.args.core.now c.args.rows.now c.args.values.now c.args.fell.now c.requires.rows c.requires.values c.requires.marks c.requires.told
 
 pub loop-turn-preserved : goal.loop-turn-preserved
 loop-turn-preserved c =

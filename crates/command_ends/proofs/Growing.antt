@@ -1,6 +1,6 @@
 -- Known bytes that grow by one piece after another.
 use Rattle.std.proofs.Common.{◌≡◌, ℕ, zero, suc, ◌<◌, List, [], ◌∷◌, ◌++◌, take, drop, length, flat_map, get_or, append_assoc, ◌∙◌, ap, sym, refl, inl, inr, arith}
-use Rattle.std.specs.Prelude.{Option, Some, None, Result, Ok, Err, OnErr, OnOk}
+use Rattle.std.specs.Prelude.{◌≢◌, Option, Some, None, Result, Ok, Err, OnErr, OnOk}
 use Rattle.std.specs.Io.KnownBytes.{Appends}
 use Rattle.std.proofs.lemmas.List.{take-append-le, take-append-drop, take_all}
 use Rattle.px_io.specs.Causes.{Rose, AppendsPrefix}
@@ -52,7 +52,11 @@ all_is_prefix line old new all = record { count = length line; appended = rw (ta
 pub line_added : (line : List ℕ) (old new : Option (List ℕ)) (faults faults_now wants wants_now : ℕ) (result : Result (Unit {0}) PutFault) →
     OnOk result (Appends old new line) → OnErr result (AppendsPrefix old new line) →
     (result ≡ Err kind.Failed → Rose faults faults_now) → (result ≡ Err kind.Memory → Rose wants wants_now) →
+    (result ≢ Err kind.Failed → faults_now ≡ faults) → (result ≢ Err kind.Memory → wants_now ≡ wants) →
     IsLineAdded line old new faults faults_now wants wants_now
-line_added line old new faults faults_now wants wants_now (Ok x) ok err failed wanted = record { partly = all_is_prefix line old new ok; whole = inl ok }
-line_added line old new faults faults_now wants wants_now (Err kind.Failed) ok err failed wanted = record { partly = err; whole = inr (inl (failed refl)) }
-line_added line old new faults faults_now wants wants_now (Err kind.Memory) ok err failed wanted = record { partly = err; whole = inr (inr (wanted refl)) }
+line_added line old new faults faults_now wants wants_now (Ok x) ok err failed wanted quiet spared =
+    record { partly = all_is_prefix line old new ok; whole = inl (ok, quiet (λ same. cc), spared (λ same. cc)) }
+line_added line old new faults faults_now wants wants_now (Err kind.Failed) ok err failed wanted quiet spared =
+    record { partly = err; whole = inr (inl (failed refl, spared (λ same. cc))) }
+line_added line old new faults faults_now wants wants_now (Err kind.Memory) ok err failed wanted quiet spared =
+    record { partly = err; whole = inr (inr (quiet (λ same. cc), wanted refl)) }

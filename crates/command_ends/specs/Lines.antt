@@ -1,5 +1,5 @@
 -- The line that each way to stop is reported by.
-use Rattle.std.specs.Prelude.{ℕ, ◌⊎◌, List, [], ◌∷◌, ◌++◌, codes, decimal, Option}
+use Rattle.std.specs.Prelude.{◌≡◌, ℕ, ◌⊎◌, List, [], ◌∷◌, ◌++◌, codes, decimal, Option}
 use Rattle.std.specs.Io.KnownBytes.{Appends}
 use Rattle.px_base.specs.declared.program.Refused.{Refused}
 use Rattle.px_base.specs.declared.program.Refused.TheVariants as refused
@@ -80,7 +80,9 @@ line_of text = codes "phoenix: " ++ (text ++ 10 ∷ [])
 abbrev pub stop_line : Stop → List ℕ
 stop_line why = line_of (stop_text why)
 
--- The line is appended to known bytes, or a prefix of it, and then only where the count of faults or that of wants rose.
+-- The line is appended to known bytes, and the sink had no fault and no want; or a prefix of it is, and the sink had one of
+-- them, once.
 pub record IsLineAdded (line : List ℕ) (old new : Option (List ℕ)) (faults_before faults_now wants_before wants_now : ℕ) : Type 0 where
   pub partly : AppendsPrefix old new line
-  pub whole : Appends old new line ⊎ (Rose faults_before faults_now ⊎ Rose wants_before wants_now)
+  pub whole : (Appends old new line × (faults_now ≡ faults_before) × (wants_now ≡ wants_before))
+      ⊎ ((Rose faults_before faults_now × (wants_now ≡ wants_before)) ⊎ ((faults_now ≡ faults_before) × Rose wants_before wants_now))

@@ -137,7 +137,7 @@ fn add_frame<F: Sink>(faults: &mut F, at: u64, what: FrameFault)
 }
 
 /// Appends the one line that says why the command stopped, in pieces that take no memory. Where the sink fails a prefix of
-/// it is appended, and nothing else comes of that.
+/// it is appended, the sink is asked no more, and nothing else comes of that.
 pub fn report<F: Sink>(faults: &mut F, stop: Stop)
     ensures line { IsLineAdded (stop_line stop) (F.written faults.old) (F.written faults.new) (F.faults faults.old) (F.faults faults.new) (F.wants faults.old) (F.wants faults.new) }
     ensures faults_later { F.faults faults.old ≤ F.faults faults.new }

@@ -1,9 +1,9 @@
-ghost use Rattle.std.specs.Prelude.{◌≡◌, ◌≤◌, ◌<◌, ◌^◌, ◌*◌, ℕ, All, IfOk, [], length, map, slice_index_or, sum_by};
+ghost use Rattle.std.specs.Prelude.{◌≡◌, ◌≤◌, ◌<◌, ◌^◌, ◌*◌, ℕ, All, IfOk, [], length, map, slice_index_or};
 ghost use Rattle.px_base.specs.Graphs.{IsGraphOf, IsRowOf, RowsFit, is_neighbour, kept_reads, read_count, reads_of, row_at};
 ghost use Rattle.px_base.specs.Values.{IsWeight, by_position};
 ghost use Rattle.graph_forms.specs.Neighbours.{HasMembers, form_of};
 
-use crate::fill::fill_rows;
+use crate::fill::{Direction, fill_rows};
 use crate::neighbours::{fill_neighbours, unit_rows};
 use crate::order::{given_away, order_rows, row_lengths};
 use crate::room::{empty_rows, room_needed};
@@ -11,17 +11,17 @@ use crate::row::Row;
 use px_base::{Edge, EdgeList, Form, Items, Memory, Pos, Read, ReadGraph, Reads};
 use std::alloc::Global;
 
-/// Rows of what each target reads or, turned round, each source.
+/// Rows of what one end of each edge reads.
 fn read_rows(
     alloc: Global,
     counts: &[u32],
-    back: bool,
+    direction: Direction,
     edges: &[Edge],
 ) -> Result<Vec<Row<Read>>, Memory>
-    ensures reads { IfOk result (λ rows. rows.items ≡ by_position (length counts.now) (reads_of (form_of back) (length counts.now) edges.now)) }
+    ensures reads { IfOk result (λ rows. rows.items ≡ by_position (length counts.now) (reads_of (form_of direction) (length counts.now) edges.now)) }
 {
     let mut rows = empty_rows(alloc, counts)?;
-    fill_rows(&mut rows, back, edges)?;
+    fill_rows(&mut rows, direction, edges)?;
     Ok(rows)
 }
 
@@ -57,8 +57,8 @@ fn unordered_rows(
 {
     let counts = room_needed(alloc, n, form, edges)?;
     match form {
-        Form::Given => read_rows(alloc, &counts, false, edges),
-        Form::Back => read_rows(alloc, &counts, true, edges),
+        Form::Given => read_rows(alloc, &counts, Direction::Forward, edges),
+        Form::Back => read_rows(alloc, &counts, Direction::Backward, edges),
         Form::Simple => simple_rows(alloc, &counts, edges),
     }
 }

@@ -1,5 +1,5 @@
-ghost use Rattle.std.specs.Prelude.{◌≡◌, ◌≤◌, ◌<◌, ◌^◌, ℕ, All, IfOk, OnOk, length, map};
-ghost use Rattle.px_base.specs.Graphs.{IsRowOf, kept_reads, read_count, row_at, stands_before};
+ghost use Rattle.std.specs.Prelude.{◌≡◌, ◌≤◌, ◌<◌, ◌^◌, ℕ, All, IfOk, length, map};
+ghost use Rattle.px_base.specs.Graphs.{IsRowOf, kept_reads, row_at, stands_before};
 
 use crate::row::Row;
 use px_base::{Items, Memory, Pos, Rank, Read, ReadGraph, Reads};

@@ -1,5 +1,5 @@
 ghost use Rattle.std.specs.Prelude.{◌≡◌, ◌≢◌, ◌≤◌, false, true, IfErr, IfOk, IsTrue, Ok, Err, None};
-ghost use Rattle.px_io.specs.Causes.{Rose};
+ghost use Rattle.px_io.specs.Causes.{Rose, RoseAtMostOnce};
 ghost use Rattle.command_texts.specs.Solutions.{is_decided};
 ghost use Rattle.command_texts.specs.Jobs.{JobFits, reads_source};
 ghost use Rattle.command_texts.specs.Plans.{PlanFits, plan_of, plan_reads, serves_frames};
@@ -35,7 +35,7 @@ fn write_text<R: Threads + Sync, S: Source, K: Sink>(
     ensures source_later { S.faults source.old ≤ S.faults source.new }
     ensures sink_later { K.faults sink.old ≤ K.faults sink.new }
     ensures spared { status_of result ≢ 11 → K.wants sink.new ≡ K.wants sink.old }
-    ensures sink_wants_later { K.wants sink.old ≤ K.wants sink.new }
+    ensures sink_wants { RoseAtMostOnce (K.wants sink.old) (K.wants sink.new) }
 {
     let text = match job_text(rt, alloc, job, source) {
         Ok(text) => text,
@@ -70,7 +70,7 @@ fn follow<R: Threads + Sync, S: Source, K: Sink>(
     ensures source_later { S.faults source.old ≤ S.faults source.new }
     ensures sink_later { K.faults sink.old ≤ K.faults sink.new }
     ensures spared { status_of result ≢ 11 → K.wants sink.new ≡ K.wants sink.old }
-    ensures sink_wants_later { K.wants sink.old ≤ K.wants sink.new }
+    ensures sink_wants { RoseAtMostOnce (K.wants sink.old) (K.wants sink.new) }
 {
     match plan {
         Ok(Plan::Write(job)) => write_text(rt, alloc, &job, source, sink),
@@ -100,7 +100,7 @@ fn perform<R: Threads + Sync, S: Source, K: Sink>(
     ensures source_later { S.faults source.old ≤ S.faults source.new }
     ensures sink_later { K.faults sink.old ≤ K.faults sink.new }
     ensures spared { status_of result ≢ 11 → K.wants sink.new ≡ K.wants sink.old }
-    ensures sink_wants_later { K.wants sink.old ≤ K.wants sink.new }
+    ensures sink_wants { RoseAtMostOnce (K.wants sink.old) (K.wants sink.new) }
 {
     match read_command(alloc, words) {
         Ok(command) => follow(rt, alloc, plan(command), source, sink),
@@ -144,8 +144,8 @@ pub fn phoenix<R: Threads + Sync, S: Source, K: Sink, F: Sink>(
     ensures untouched { serves_frames (plan_of (command_of words.now)) ≡ false → result ≢ 0 → result ≢ 7 → result ≢ 11 → sink.new ≡ sink.old }
     ensures silent { result ≡ 0 → faults.new ≡ faults.old }
 
-    // 6 and 7: the source, which the plan reads, or the sink failed in this call. Where one of them failed no other status
-    // comes, and where the sink wanted memory none but 11. No count falls.
+    // 6 and 7: the source, which the plan reads, or the sink failed in this call, once. Where one of them failed no other
+    // status comes, and where the sink wanted memory, once too, none but 11. No count falls.
     ensures reads { result ≡ 6 → plan_reads (plan_of (command_of words.now)) ≡ true }
     ensures read_fault { result ≡ 6 → Rose (S.faults source.old) (S.faults source.new) }
     ensures no_fault { result ≢ 6 → S.faults source.new ≡ S.faults source.old }
@@ -154,7 +154,7 @@ pub fn phoenix<R: Threads + Sync, S: Source, K: Sink, F: Sink>(
     ensures source_later { S.faults source.old ≤ S.faults source.new }
     ensures sink_later { K.faults sink.old ≤ K.faults sink.new }
     ensures spared { result ≢ 11 → K.wants sink.new ≡ K.wants sink.old }
-    ensures sink_wants_later { K.wants sink.old ≤ K.wants sink.new }
+    ensures sink_wants { RoseAtMostOnce (K.wants sink.old) (K.wants sink.new) }
     ensures faults_later { F.faults faults.old ≤ F.faults faults.new }
     ensures faults_wants_later { F.wants faults.old ≤ F.wants faults.new }
 {

@@ -1,5 +1,5 @@
 ghost use Rattle.std.specs.Prelude.{◌≡◌, ◌≢◌, ◌≤◌};
-ghost use Rattle.px_io.specs.Causes.{Rose};
+ghost use Rattle.px_io.specs.Causes.{Rose, RoseAtMostOnce};
 ghost use Rattle.phoenix_cli.specs.Calls.{IsServeRun, outcome_of, status_of};
 
 use command_ends::{FrameFault, Stop};
@@ -49,7 +49,7 @@ pub fn serve_frames<R: Threads + Sync, S: Source, K: Sink>(
     ensures source_later { S.faults source.old ≤ S.faults source.new }
     ensures sink_later { K.faults sink.old ≤ K.faults sink.new }
     ensures spared { status_of result ≢ 11 → K.wants sink.new ≡ K.wants sink.old }
-    ensures sink_wants_later { K.wants sink.old ≤ K.wants sink.new }
+    ensures sink_wants { RoseAtMostOnce (K.wants sink.old) (K.wants sink.new) }
 {
     outcome_of(serve(rt, alloc, source, sink))
 }

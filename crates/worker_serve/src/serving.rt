@@ -3,7 +3,7 @@ ghost use Rattle.px_base.specs.declared.wire.Answer.{Answer as AnswerData};
 ghost use Rattle.px_base.specs.declared.frame.Frame.{Frame as FrameData};
 ghost use Rattle.px_base.specs.FrameFits.{AreFramesOf};
 ghost use Rattle.std.specs.Io.KnownBytes.{Consumes, IsAtEnd, Keeps};
-ghost use Rattle.px_io.specs.Causes.{Rose};
+ghost use Rattle.px_io.specs.Causes.{Rose, RoseAtMostOnce};
 ghost use Rattle.worker_serve.specs.Sessions.{Takes};
 ghost use Rattle.worker_serve.specs.Streams.{BYTES, IsServed, IsPassed};
 
@@ -56,7 +56,7 @@ fn pass<R: Threads + Sync, K: Sink>(
     ensures no_write_fault { result ≢ Err ServeEnd.WriteFault → K.faults sink.new ≡ K.faults sink.old }
     ensures sink_later { K.faults sink.old ≤ K.faults sink.new }
     ensures spared { result ≢ Err ServeEnd.Memory → K.wants sink.new ≡ K.wants sink.old }
-    ensures sink_wants_later { K.wants sink.old ≤ K.wants sink.new }
+    ensures sink_wants { RoseAtMostOnce (K.wants sink.old) (K.wants sink.new) }
 {
     out.clear();
     let fed = session.feed(rt, piece, out);
@@ -84,7 +84,7 @@ fn serve_pieces<R: Threads + Sync, S: Source, K: Sink>(
     ensures source_later { S.faults source.old ≤ S.faults source.new }
     ensures sink_later { K.faults sink.old ≤ K.faults sink.new }
     ensures spared { result ≢ ServeEnd.Memory → K.wants sink.new ≡ K.wants sink.old }
-    ensures sink_wants_later { K.wants sink.old ≤ K.wants sink.new }
+    ensures sink_wants { RoseAtMostOnce (K.wants sink.old) (K.wants sink.new) }
 {
     let mut session = Session::new(alloc);
     let mut out = Vec::new(alloc);
@@ -126,7 +126,7 @@ pub fn serve<R: Threads + Sync, S: Source, K: Sink>(
     ensures source_later { S.faults source.old ≤ S.faults source.new }
     ensures sink_later { K.faults sink.old ≤ K.faults sink.new }
     ensures spared { result ≢ ServeEnd.Memory → K.wants sink.new ≡ K.wants sink.old }
-    ensures sink_wants_later { K.wants sink.old ≤ K.wants sink.new }
+    ensures sink_wants { RoseAtMostOnce (K.wants sink.old) (K.wants sink.new) }
 {
     match zeros(alloc, PIECE) {
         Ok(mut space) => serve_pieces(rt, alloc, source, sink, space.as_mut_slice()),

@@ -1,6 +1,5 @@
 use Rattle.std.proofs.Common.{◌≡◌, ◌∷◌, ◌++◌, [], sym, subst}
 use Rattle.std.specs.Prelude.{IfOk}
-use Rattle.worker_serve.specs.declared.stage.Stage.TheVariants as stage
 use Rattle.worker_serve.specs.Sessions.{AreLoading, Refuses}
 use Rattle.worker_serve.specs.Stages.{IsStageAfter}
 use Rattle.worker_serve.proofs.Quiet.{quiet_next}

@@ -15,9 +15,9 @@ use Rattle.px_base.specs.Parts.{is_within}
 use Rattle.px_base.specs.Worlds.{CountWorld, first_foreign, is_fresh}
 use Rattle.px_base.specs.CountSteps.{is_master_passing, is_dead, dies, fresh_counts, delta_of, counts_less, world_as_read, after_deaths, is_announced, death_announcements, times_read, count_step}
 use Rattle.px_base.proofs.Positions.{length_by_position}
-use Rattle.count_world.specs.declared.readers.Readers.{Readers}
+use Rattle.reader_chains.specs.declared.readers.Readers.{Readers}
 use Rattle.count_world.specs.Kept.{KeepsCounts}
-use Rattle.count_world.specs.Readers.{AreReaders, times_linked, times_in_row}
+use Rattle.count_world.specs.Readers.{AreReaders, times_listed, times_in_row}
 use Rattle.count_world.specs.Sets.{IsListOf, is_dying, is_told_again, counts_off, without}
 use Rattle.count_world.specs.Told.{times_of, told_updates}
 use Rattle.count_world.proofs.Masters.{by_position_same, in_set}
@@ -33,26 +33,26 @@ not_earlier a b h = grind (arith, nat_tests)
 abbrev counts_without : Part → (ℕ → Bool) → List ℕ → List ℕ
 counts_without part test counts = by_position (length counts) (λ k. slice_index counts k - reads_passing (is_master_passing part test) (row_at part.rows k))
 
--- what the members' chains take off a count is what its row reads of them
+-- what the members' readers take off a count is what its row reads of them
 pub lost_to : (part : Part) (readers : Readers) (test : ℕ → Bool) (members : List ℕ) (j : ℕ) → part.low ≤ part.high → AreReaders part readers → IsListOf (part.high - part.low) test members →
-    j < part.high - part.low → sum_by (λ k. times_linked readers k j) members ≡ reads_passing (is_master_passing part test) (row_at part.rows j)
+    j < part.high - part.low → sum_by (λ k. times_listed readers k j) members ≡ reads_passing (is_master_passing part test) (row_at part.rows j)
 lost_to part readers test members j range are lists inside =
-    lists (λ k. times_linked readers k j)
-    ∙ below_same (part.high - part.low) (λ k. times_linked readers k j) (λ k. times_in_row part k j) test (λ k below. are.times k j below inside)
+    lists (λ k. times_listed readers k j)
+    ∙ below_same (part.high - part.low) (λ k. times_listed readers k j) (λ k. times_in_row part k j) test (λ k below. are.times k j below inside)
     ∙ row_by_master test part.low (part.high - part.low) (row_at part.rows j)
     ∙ (let whole : part.low + (part.high - part.low) ≡ part.high = omega arith in ap (λ high. reads_passing (λ u. is_within part.low high u && test (u - part.low)) (row_at part.rows j)) whole)
 
 pub off_is : (part : Part) (readers : Readers) (test : ℕ → Bool) (members counts : List ℕ) → part.low ≤ part.high → AreReaders part readers → IsListOf (part.high - part.low) test members →
     length counts ≡ part.high - part.low → counts_off readers members counts ≡ counts_without part test counts
 off_is part readers test members counts range are lists size =
-    by_position_same (length counts) (length counts) (λ j. slice_index counts j - sum_by (λ k. times_linked readers k j) members) (λ k. slice_index counts k - reads_passing (is_master_passing part test) (row_at part.rows k)) 0 refl
+    by_position_same (length counts) (length counts) (λ j. slice_index counts j - sum_by (λ k. times_listed readers k j) members) (λ k. slice_index counts k - reads_passing (is_master_passing part test) (row_at part.rows k)) 0 refl
     (λ j below. ap (λ lost. slice_index counts j - lost) (lost_to part readers test members j range are lists (omega (arith, below, size))))
 
 -- ---- the counts that are read
 
 pub nothing_off : (readers : Readers) (n : ℕ) (members counts : List ℕ) → IsListOf n (λ k. false) members → counts_off readers members counts ≡ counts
 nothing_off readers n members counts lists =
-    sym (fill_by_all (λ j. slice_index counts j - sum_by (λ k. times_linked readers k j) members) counts (length counts) 0 refl (λ j below. omega (arith, sum_none (λ k. times_linked readers k j) n members lists)))
+    sym (fill_by_all (λ j. slice_index counts j - sum_by (λ k. times_listed readers k j) members) counts (length counts) 0 refl (λ j below. omega (arith, sum_none (λ k. times_listed readers k j) n members lists)))
 
 begun_anew : (w : CountWorld) → KeepsCounts w → counts_without w.part (is_dead w) (map length w.part.rows) ≡ fresh_counts w
 begun_anew w keeps =

@@ -1,6 +1,6 @@
 pub mod Counted
 pub mod Foreign
-pub mod Linked
+pub mod Gathered
 pub mod Lowered
 pub mod Masters
 pub mod Stepped

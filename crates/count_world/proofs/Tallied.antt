@@ -4,7 +4,7 @@ use Rattle.std.specs.Prelude.{◌==◌, ◌&&◌, ◌||◌, nat_lt, filter, slic
 use Rattle.std.specs.Vec.{vec_capacity}
 use Rattle.std.proofs.lemmas.Bool.Decides.{nat_tests, eqb_tells}
 use Rattle.std.proofs.lemmas.Bool.{cases_lt}
-use Rattle.std.proofs.lemmas.List.{get_or-set_same, get_or-set_other, take_all, length-replicate, append-nil, map-append}
+use Rattle.std.proofs.lemmas.List.{get_or-set_same, get_or-set_other, get_or-replicate, take_all, length-replicate, append-nil, map-append}
 use Rattle.std.proofs.Math.ListN.{get_or-eq_default}
 use Rattle.std.specs.List.Sorted.{IsPermutation, IsStrictlyIncreasing, IsSorted}
 use Rattle.std.proofs.lemmas.List.Sorted.{sum_by-IsPermutation, IsNonDecreasingBy-from_sort}
@@ -19,7 +19,6 @@ use Rattle.count_world.specs.Tally.{IsTally, IsClear, RaisesTally, is_told}
 use Rattle.count_world.specs.Sets.{IsListOf, without}
 use Rattle.count_world.specs.Told.{is_place, told_updates}
 use Rattle.count_world.proofs.Sums.{one_more, room_for_one, none_list, listed_is, filter_suc, in_order_same}
-use Rattle.count_world.proofs.Linked.{get_or-replicate_same}
 use Rattle.count_world.proofs.Telling.{told_one, told_none}
 
 -- one number is raised
@@ -84,10 +83,16 @@ wiped times touched lists i = elim (cases_lt i (length times)) [
 pub clear_lists : (times : List ℕ) → ((i : ℕ) → slice_index times i ≡ 0) → IsListOf (length times) (is_told times) []
 clear_lists times none = none_list (length times) (is_told times) (λ i below. ap (λ n. nat_lt 0 n) (none i))
 
+none_at : (n k z : ℕ) → get_or (replicate n z) k z ≡ z
+none_at n k z = elim (cases_lt k n) [
+  | inl low ↦ get_or-replicate n k z z low
+  | inr high ↦ get_or-eq_default (replicate n z) z (omega (arith, high, length-replicate n z))
+]
+
 pub clear_made : (mirrors : List ℕ) (t : Tally) → t.times.items ≡ replicate (length mirrors) 0 → t.touched.items ≡ [] → length mirrors ≤ vec_capacity t.touched → length mirrors ≤ 2 ^ 22 → IsClear t
 clear_made mirrors t times touched room few =
     let size : length t.times.items ≡ length mirrors = ap length times ∙ length-replicate (length mirrors) 0 in
-    let none : (i : ℕ) → slice_index t.times.items i ≡ 0 = λ i. rw times (get_or-replicate_same (length mirrors) i 0) in
+    let none : (i : ℕ) → slice_index t.times.items i ≡ 0 = λ i. rw times (none_at (length mirrors) i 0) in
     record {
       tally = record { few = omega (arith, size, few); room = omega (arith, size, room); lists = rw touched (clear_lists t.times.items none) };
       none = none;

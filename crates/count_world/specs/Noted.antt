@@ -4,7 +4,7 @@ use Rattle.px_base.specs.declared.graph.Part.{Part}
 use Rattle.px_base.specs.declared.wire.Update.{Update}
 use Rattle.px_base.specs.CountSteps.{counts_less}
 use Rattle.count_world.specs.declared.known.Known.{Known}
-use Rattle.count_world.specs.declared.readers.Readers.{Readers}
+use Rattle.reader_chains.specs.declared.readers.Readers.{Readers}
 use Rattle.count_world.specs.Census.{KeepsCensus}
 use Rattle.count_world.specs.Kept.{HasTables}
 use Rattle.count_world.specs.Sets.{IsListOf, AreSaved, is_dying, is_told_again, counts_off, without}

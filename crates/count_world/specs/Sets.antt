@@ -3,8 +3,8 @@ use Rattle.std.specs.Prelude.{◌≡◌, ℕ, ◌+◌, ◌-◌, Bool, true, not,
 use Rattle.std.specs.List.{list_any}
 use Rattle.px_base.specs.declared.wire.Update.{Update}
 use Rattle.px_base.specs.Values.{by_position, positions_below, is_in, is_listed}
-use Rattle.count_world.specs.declared.readers.Readers.{Readers}
-use Rattle.count_world.specs.Readers.{times_linked}
+use Rattle.reader_chains.specs.declared.readers.Readers.{Readers}
+use Rattle.count_world.specs.Readers.{times_listed}
 
 -- The list has those of the first n that pass the test, each once, in some order: whatever is summed up over it is what is
 -- summed up over them.
@@ -23,9 +23,9 @@ falls flag before after needed = (flag == 1) && (not (nat_lt before needed) && n
 abbrev pub is_told_again : Bool → List ℕ → ℕ → Bool
 is_told_again fresh alive k = fresh && not (is_in alive k)
 
--- each count less what its master reads of the members, by their chains
+-- each count less what its master reads of the members, by the lists of their readers
 abbrev pub counts_off : Readers → List ℕ → List ℕ → List ℕ
-counts_off readers members counts = by_position (length counts) (λ j. slice_index counts j - sum_by (λ k. times_linked readers k j) members)
+counts_off readers members counts = by_position (length counts) (λ j. slice_index counts j - sum_by (λ k. times_listed readers k j) members)
 
 -- the list with 0 at the members
 abbrev pub without : List ℕ → List ℕ → List ℕ

@@ -6,16 +6,17 @@ ghost use Rattle.px_base.specs.Parts.{PartFits, is_within};
 ghost use Rattle.count_world.specs.Census.{IsCensus};
 ghost use Rattle.count_world.specs.Kept.{HasTables, IsReady};
 ghost use Rattle.count_world.specs.Noted.{IsNoted, IsStepped};
-ghost use Rattle.count_world.specs.Readers.{IsLinked};
+ghost use Rattle.count_world.specs.Readers.{AreMasters};
 ghost use Rattle.count_world.specs.Sets.{counts_off, is_updated, without};
 
 use crate::census::{Census, master_count};
 use crate::lists::{copy_list, list_again, wipe_at, zeros};
-use crate::readers::Readers;
+use crate::readers::{gather_readers, take_off};
 use crate::saved::copy_changing;
 use crate::tally::Tally;
 use mirror_places::PlaceTable;
 use px_base::{Memory, Part, Update, Value};
+use reader_chains::Readers;
 use std::alloc::Global;
 use std::mem;
 
@@ -46,7 +47,7 @@ impl Known {
         let mirrors = part.mirrors.as_slice();
         Ok(Known {
             census: Census::new(alloc, part, needed)?,
-            readers: Readers::new(alloc, part)?,
+            readers: gather_readers(alloc, part)?,
             places: PlaceTable::new(alloc, mirrors)?,
             again: Vec::with_capacity(alloc, count)?,
             gone: Vec::with_capacity(alloc, count)?,
@@ -69,7 +70,7 @@ impl Known {
         copy_changing(part, fresh, updates, counts, &mut self.saved);
         self.census.begin(part, fresh);
         let again = self.again.as_slice();
-        self.readers.take_off(again, &mut self.census);
+        take_off(&self.readers, again, &mut self.census);
         self.census.take_deltas(part, updates);
         let dying = self.census.dying.as_slice();
         self.tally.count(part, &self.places, again, dying);
@@ -78,7 +79,7 @@ impl Known {
     /// Lets those on the list die, and takes their reads off the counts.
     fn commit(&mut self)
         requires census { IsCensus self.old.census }
-        requires linked { IsLinked (length self.old.census.alive.items) self.old.readers }
+        requires masters { AreMasters (length self.old.census.alive.items) self.old.readers }
         requires room { length self.old.census.alive.items ≤ vec_capacity self.old.gone }
         ensures census { IsCensus self.new.census }
         ensures tables { (part : PartData) → HasTables part self.old → HasTables part self.new }
@@ -94,7 +95,7 @@ impl Known {
         self.census.dying.clear();
         let gone = self.gone.as_slice();
         wipe_at(gone, &mut self.census.alive);
-        self.readers.take_off(gone, &mut self.census);
+        take_off(&self.readers, gone, &mut self.census);
     }
 
     /// Puts back the counts that were changed, and the list.

@@ -9,7 +9,7 @@ use Rattle.px_base.specs.Graphs.{row_at}
 use Rattle.px_base.specs.Parts.{PartFits}
 use Rattle.px_base.specs.ValueSteps.{renewed_masters}
 use Rattle.worker_world.specs.declared.due.Due.{Due}
-use Rattle.worker_world.specs.declared.readers.Readers.{Readers}
+use Rattle.reader_chains.specs.declared.readers.Readers.{Readers}
 use Rattle.worker_world.specs.Placed.{master_count, placed_row, renewed_at}
 use Rattle.worker_world.specs.Readers.{AreReaders}
 use Rattle.worker_world.specs.Due.{is_due, AreTold}

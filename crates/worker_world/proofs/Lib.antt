@@ -1,8 +1,8 @@
 pub mod Changing
 pub mod Flat
+pub mod Gathered
 pub mod Halved
 pub mod Keeping
-pub mod Linked
 pub mod Placing
 pub mod Reaching
 pub mod Renewing

@@ -11,7 +11,7 @@ use Rattle.px_base.specs.ValueSteps.{newest_value}
 use Rattle.px_base.proofs.Listed.{place_is, not_equal, rising_apart}
 use Rattle.px_base.proofs.Positions.{at_position}
 use Rattle.worker_world.specs.declared.due.Due.{Due}
-use Rattle.worker_world.specs.declared.readers.Readers.{Readers}
+use Rattle.reader_chains.specs.declared.readers.Readers.{Readers}
 use Rattle.worker_world.specs.Placed.{master_count, mirrors_after}
 use Rattle.worker_world.specs.Due.{AreTold, IsUpdateTold}
 use Rattle.worker_world.proofs.Placing.{HasHalves, put_halves}

@@ -1,5 +1,5 @@
 -- Readers that are told, and masters that stay due.
-use Rattle.std.proofs.Common.{◌≡◌, ℕ, zero, suc, ◌+◌, ◌-◌, ◌<◌, ◌≢◌, ◌∙◌, Bool, true, false, List, [], ◌∷◌, length, get_or, set, refl, sym, ap, arith, inl, inr, take, drop, drop-cons, add-one, get_or-set_same, get_or-set_other}
+use Rattle.std.proofs.Common.{◌≡◌, ℕ, suc, ◌+◌, ◌<◌, ◌≢◌, ◌∙◌, Bool, true, false, List, [], ◌∷◌, length, get_or, set, refl, sym, ap, arith, inl, inr, take, drop, drop-cons, add-one, get_or-set_same, get_or-set_other}
 use Rattle.std.specs.Prelude.{◌==◌, ◌||◌, slice_index, All}
 use Rattle.std.proofs.lemmas.Bool.Decides.{eqb_tells}
 use Rattle.std.proofs.lemmas.Bool.{eq-eqb}
@@ -7,23 +7,15 @@ use Rattle.std.proofs.lemmas.List.Folds.{list_any_at, list_any_more}
 use Rattle.px_base.specs.Values.{is_listed}
 use Rattle.px_base.proofs.Listed.{not_equal}
 use Rattle.worker_world.specs.declared.due.Due.{Due}
-use Rattle.worker_world.specs.declared.readers.Link.{Link}
-use Rattle.worker_world.specs.declared.readers.Readers.{Readers}
-use Rattle.worker_world.specs.Readers.{link_at, is_chained}
+use Rattle.reader_chains.specs.declared.readers.Readers.{Readers}
 use Rattle.worker_world.specs.Due.{StaysDue, IsTold, AreTold}
-use Rattle.worker_world.proofs.Linked.{LeadsBack, chained_next}
 
 pub stays_on : (one two three : Due) → StaysDue one two → StaysDue two three → StaysDue one three
 stays_on one two three g h = record { size = h.size ∙ g.size; all = λ off. g.all (h.all off); kept = λ k not. g.kept k (h.kept k not) }
 
--- whoever isn't the reader of a link is after it
-pub chained_after : (links : List Link) → LeadsBack links → (at k : ℕ) (link : Link) → 0 < at → link ≡ link_at links (at - 1) → is_chained links at k ≡ true → link.reader ≢ k → is_chained links link.next k ≡ true
-chained_after links back zero k link more is chained apart = absurd (omega arith)
-chained_after links back (suc i) k link more is chained apart =
-    let other : (link.reader == k) ≡ false = not_equal link.reader k apart in
-    let same : suc i - 1 ≡ i = omega arith in
-    let here : link ≡ link_at links i = is ∙ ap (link_at links) same in
-    sym (ap (λ b. b || is_chained links link.next k) other) ∙ ap (λ x. x.reader == k || is_chained links x.next k) here ∙ sym (chained_next links back i k) ∙ chained
+-- whoever isn't the first reader is after it
+pub after_first : (reader k : ℕ) (left rest : List ℕ) → left ≡ reader ∷ rest → is_listed left k ≡ true → reader ≢ k → is_listed rest k ≡ true
+after_first reader k left rest is listed apart = sym (ap (λ b. b || is_listed rest k) (not_equal reader k apart)) ∙ ap (λ list. is_listed list k) (sym is) ∙ listed
 
 -- ---- one value more
 

@@ -4,7 +4,7 @@ use Rattle.px_base.specs.declared.graph.Part.{Part}
 use Rattle.px_base.specs.declared.wire.Update.{Update}
 use Rattle.px_base.specs.Values.{place_of}
 use Rattle.worker_world.specs.declared.due.Due.{Due}
-use Rattle.worker_world.specs.declared.readers.Readers.{Readers}
+use Rattle.reader_chains.specs.declared.readers.Readers.{Readers}
 use Rattle.worker_world.specs.Readers.{is_reader}
 use Rattle.worker_world.specs.Placed.{master_count}
 

@@ -14,7 +14,7 @@ use crate::due::Due;
 use crate::flat_rows::{FlatRows, placed_rows};
 use crate::places::{longest, master_count};
 use crate::pulls::{is_mex, renew_listed, renew_masters};
-use crate::readers::Readers;
+use crate::readers::gather_readers;
 use crate::stamps::Stamps;
 use crate::steps::{
     announcements, first_values, many_changed, put_updates, some_changed, some_listed_changed,
@@ -23,6 +23,7 @@ use crate::steps::{
 use crate::telling::{settle_all, settle_listed, tell_of_updates};
 use mirror_places::PlaceTable;
 use px_base::{CoreProgram, Memory, Part, Update, Value};
+use reader_chains::Readers;
 use std::alloc::Global;
 use std::mem;
 
@@ -63,7 +64,7 @@ impl Known {
         } else {
             0
         };
-        let readers = Readers::new(alloc, part, &rows)?;
+        let readers = gather_readers(alloc, part, &rows)?;
         let values = first_values(alloc, core, part)?;
         let next = first_values(alloc, core, part)?;
         let masters = master_count(part);

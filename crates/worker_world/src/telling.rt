@@ -8,9 +8,9 @@ ghost use Rattle.worker_world.specs.Due.{is_due, StaysDue, IsTold, AreTold, IsUp
 
 use crate::due::Due;
 use crate::places::{master_count, place_of};
-use crate::readers::Readers;
 use mirror_places::PlaceTable;
 use px_base::{Part, Update, Value};
+use reader_chains::Readers;
 
 /// The readers of a place are due.
 fn tell_readers(part: &Part, readers: &Readers, place: usize, due: &mut Due)
@@ -20,11 +20,12 @@ fn tell_readers(part: &Part, readers: &Readers, place: usize, due: &mut Due)
     ensures told { (k : ℕ) → is_reader readers.now place k ≡ true → is_due due.new k ≡ true }
     ensures stays { StaysDue due.old due.new }
 {
-    let mut at = readers.first[place] as usize;
-    while at > 0 && !due.all {
-        let link = readers.links[at - 1];
-        due.add(link.reader);
-        at = link.next as usize;
+    let mut left = readers.of(place);
+    while !due.all {
+        let Some(reader) = left.next() else {
+            return;
+        };
+        due.add(reader);
     }
 }
 

@@ -16,10 +16,10 @@ take_off-requires-clause-members c =
     let inside = listed_inside (length census.alive.items) (is_dying census.alive.items census.counts.items census.needed) census.dying.items c.requires.census.lists in
     rw (c.as_slice-gone.ensures.value, c.swap.ensures.y_after) (λ k d below. omega (arith, inside k d below, ap length c.wipe_at.ensures, without_size c.as_slice-gone.result.now census.alive.items))
 
-pub take_off-requires-clause-linked : goal.take_off-requires-clause-linked
-take_off-requires-clause-linked c =
+pub take_off-requires-clause-masters : goal.take_off-requires-clause-masters
+take_off-requires-clause-masters c =
     let census = c.args.self.now.census in
-    rw (ap length c.wipe_at.ensures ∙ without_size c.as_slice-gone.result.now census.alive.items) c.requires.linked
+    rw (ap length c.wipe_at.ensures ∙ without_size c.as_slice-gone.result.now census.alive.items) c.requires.masters
 
 pub take_off-requires-clause-census : goal.take_off-requires-clause-census
 take_off-requires-clause-census c =

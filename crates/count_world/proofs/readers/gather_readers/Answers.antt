@@ -1,0 +1,42 @@
+use Rattle.std.proofs.Common.{◌≡◌, ◌∙◌, ◌+◌, ◌-◌, ◌<◌, true, false, length, get_or, [], replicate, ap, arith}
+use Rattle.std.specs.Prelude.{nat_lt, ◌==◌, if◌then◌else◌}
+use Rattle.std.proofs.lemmas.Bool.Decides.{nat_tests}
+use Rattle.std.proofs.lemmas.List.{get_or_default}
+use Rattle.px_base.specs.Graphs.{row_at, reads_passing}
+use Rattle.count_world.specs.Readers.{times_in_row, times_listed}
+use Rattle.count_world.proofs.Gathered.{none_yet, never_yet, rows_grow}
+use Rattle.count_world.proofs.readers.gather_readers.Goals as goal
+
+pub loop-j-init : goal.loop-j-init
+loop-j-init c =
+    let part = c.args.part.now in
+    let none : c.in_ok-readers.readers ≡ replicate (part.high - part.low) [] = c.in_ok-readers.ensures ∙ ap (λ n. replicate n []) c.master_count.ensures in
+    record {
+      masters = none_yet (part.high - part.low) c.in_ok-readers.readers none;
+      times = λ k i below.
+          (let before : nat_lt i 0 ≡ false = grind (arith, nat_tests) in
+          rw before (never_yet (part.high - part.low) k i c.in_ok-readers.readers none));
+    }
+
+pub loop-j-preserved : goal.loop-j-preserved
+loop-j-preserved c =
+    let part = c.args.part.now in
+    let grown = c.in_ok-add_row.ensures in
+    let inside : c.loop-j.j < length part.rows = omega (arith, c.loop-j-test.true, ap length c.as_slice-row-items.ensures) in
+    let row : c.as_slice.result.now ≡ row_at part.rows c.loop-j.j =
+    c.as_slice.ensures ∙ c.row-item.is ∙ ap (λ rows. get_or rows c.loop-j.j c.row-item.result) c.as_slice-row-items.ensures ∙ get_or_default part.rows c.loop-j.j c.row-item.result [] inside in
+    record {
+      masters = grown.still;
+      times = λ k i below. rows_grow part c.loop-j.readers c.add_row.new.readers c.loop-j.j k i (c.loop-j.invariant.times k i below)
+          (grown.times k i below ∙ ap (λ reads. times_listed c.loop-j.readers k i + (if c.loop-j.j == i then reads_passing (λ u. u == part.low + k) reads else 0)) row);
+    }
+
+pub returns : goal.returns
+returns c =
+    let part = c.args.part.now in
+    record {
+      masters = c.loop-j.invariant.masters;
+      times = λ k j below inside.
+          (let low : nat_lt j c.loop-j.j ≡ true = grind (arith, nat_tests, inside, c.loop-j-test.false, ap length c.as_slice-row-items.ensures, c.requires.fits.rows) in
+          c.loop-j.invariant.times k j below ∙ ap (λ b. if b then times_in_row part k j else 0) low);
+    }

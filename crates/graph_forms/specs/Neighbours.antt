@@ -5,7 +5,7 @@ use Rattle.px_base.specs.declared.graph.Edge.{Edge}
 use Rattle.px_base.specs.declared.graph.Read.{Read}
 use Rattle.px_base.specs.declared.program.Form.{Form}
 use Rattle.px_base.specs.declared.program.Form.TheVariants.{Given, Back}
-use Rattle.px_base.specs.Graphs.{read_of_source, read_of_target, unit_read}
+use Rattle.px_base.specs.Graphs.{unit_read}
 use Rattle.graph_forms.specs.declared.fill.Direction.{Direction}
 use Rattle.graph_forms.specs.declared.fill.Direction.TheVariants as direction
 
@@ -14,15 +14,10 @@ abbrev pub form_of : Direction → Form
 form_of direction.Forward = Given
 form_of direction.Backward = Back
 
--- who reads by the edge
-abbrev pub reader_of : Direction → Edge → ℕ
-reader_of direction.Forward e = e.target
-reader_of direction.Backward e = e.source
-
--- the read that the edge makes
-abbrev pub read_by : Direction → Edge → Read
-read_by direction.Forward e = read_of_source e
-read_by direction.Backward e = read_of_target e
+-- the edge, turned round where it is read backward: its target is who reads
+abbrev pub turned : Direction → Edge → Edge
+turned direction.Forward e = e
+turned direction.Backward e = record { source = e.target; target = e.source; weight = e.weight }
 
 -- the end of the edge that v gets to read: none where the edge is a loop, or v is no end of it
 abbrev pub other_end : Edge → ℕ → List ℕ

@@ -146,7 +146,7 @@ read_size w updates true keeps =
 read_size w updates false keeps = length_by_position (length w.counts) (λ k. slice_index w.counts k - delta_of updates (w.part.low + k)) ∙ keeps.counts
 
 pub step_made : (w : CountWorld) (readers : Readers) (epoch round : ℕ) (updates : List Update) (again dying next alive counts : List ℕ) (changed : Bool) (announced : List Update) →
-    KeepsCounts w → AreReaders w.part readers → All (λ flag. flag ≤ 1) w.alive → w.epoch ≤ epoch → first_foreign (is_within w.part.low w.part.high) updates ≡ None →
+    KeepsCounts w → AreReaders w.part readers → w.epoch ≤ epoch → first_foreign (is_within w.part.low w.part.high) updates ≡ None →
     IsListOf (w.part.high - w.part.low) (is_told_again (is_fresh w.epoch epoch) w.alive) again →
     next ≡ counts_less w.part.low updates (counts_off readers again (if is_fresh w.epoch epoch then map length w.part.rows else w.counts)) →
     IsListOf (w.part.high - w.part.low) (is_dying w.alive next w.needed) dying →
@@ -156,7 +156,7 @@ pub step_made : (w : CountWorld) (readers : Readers) (epoch round : ℕ) (update
     announced ≡ told_updates w.part.mirrors (map (λ m. times_of w.part.rows again m + times_of w.part.rows dying m) w.part.mirrors) →
     count_step w (Step epoch round updates)
     ≡ Ok (record { world = record { part = w.part; needed = w.needed; epoch = epoch; round = round; alive = alive; counts = counts }; answer = Stepped epoch round changed announced })
-step_made w readers epoch round updates again dying next alive counts changed announced keeps are flags later taken first is_next second is_alive is_counts is_changed tells =
+step_made w readers epoch round updates again dying next alive counts changed announced keeps are later taken first is_next second is_alive is_counts is_changed tells =
     let late : nat_lt epoch w.epoch ≡ false = not_earlier epoch w.epoch later in
     let fresh : Bool = is_fresh w.epoch epoch in
     let read : CountWorld = world_as_read epoch round updates w in
@@ -166,7 +166,7 @@ step_made w readers epoch round updates again dying next alive counts changed an
     let dying_lists : IsListOf (w.part.high - w.part.low) (dies read) dying = subst (λ cs. IsListOf (w.part.high - w.part.low) (is_dying w.alive cs w.needed) dying) n second in
     let here : IsListOf (length w.alive) (dies read) dying = subst (λ m. IsListOf m (dies read) dying) (sym keeps.alive) dying_lists in
     let there : IsListOf (length w.alive) (is_told_again fresh w.alive) again = subst (λ m. IsListOf m (is_told_again fresh w.alive) again) (sym keeps.alive) first in
-    let a : alive ≡ after.alive = is_alive ∙ living_is read dying flags here in
+    let a : alive ≡ after.alive = is_alive ∙ living_is read dying keeps.flags here in
     let c : counts ≡ after.counts = is_counts ∙ ap (λ cs. counts_off readers dying cs) n ∙ off_is w.part readers (dies read) dying read.counts keeps.fits.range are dying_lists size in
     let ch : changed ≡ list_any (dies read) (positions_below (length w.alive)) = is_changed ∙ some_listed (length w.alive) (dies read) dying here in
     let an : announced ≡ death_announcements after (is_announced fresh read after) = tells ∙ told_after read fresh again dying there here in

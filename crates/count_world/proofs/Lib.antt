@@ -1,4 +1,5 @@
 pub mod Counted
+pub mod Fitting
 pub mod Foreign
 pub mod Gathered
 pub mod Lowered

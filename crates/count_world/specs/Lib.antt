@@ -1,3 +1,4 @@
+pub mod Answers
 pub mod Census
 pub mod Kept
 pub mod Noted

@@ -37,7 +37,6 @@ impl Known {
     /// All masters are alive, and each counts its whole row.
     pub fn new(alloc: Global, part: &Part, needed: u32) -> Result<Known, Memory>
         requires fits { PartFits part.now }
-        requires reads { read_count part.now.rows ≤ 2 ^ 25 }
         ensures ready { IfOk result (λ known. IsReady part.now known) }
         ensures needed { IfOk result (λ known. known.census.needed ≡ needed) }
         ensures alive { IfOk result (λ known. known.census.alive.items ≡ replicate (length part.now.rows) 1) }

@@ -42,6 +42,7 @@ impl CountWorld {
     ghost use Rattle.px_base.specs.Worlds.{new_count_world, of_counts, takes_update, first_foreign, foreign};
     ghost use Rattle.px_base.specs.CountSteps.{count_step};
     ghost use Rattle.px_base.specs.WorldSteps.{world_step};
+    ghost use Rattle.count_world.specs.Answers.{FitsWith};
     ghost use Rattle.count_world.specs.Kept.{KeepsCounts};
 
     /// The new world of a part, where a vertex needs `k` living neighbours: all masters are alive, and each counts its whole
@@ -72,13 +73,14 @@ impl CountWorld {
     /// One step. A Step of the world's epoch or a later one takes its updates off the counts, and lets the masters whose
     /// count is too low die at once; where its epoch is later, the counts begin anew. A Report of the world's epoch is
     /// answered by which masters are alive. Errors: the epoch doesn't go with the world's, an update is of a vertex that is
-    /// no master, want of memory. An error changes nothing.
+    /// no master, want of memory. An error changes nothing. Where the order has a frame, so has the answer.
     ///
     /// A Step costs its updates, the rows and the readers of the masters that die in it, and putting in order the mirrors
     /// that stand in these rows. A fresh one also costs a pass over all masters, and the rows and the readers of all dead.
     pub fn step(&mut self, order: &Order) -> Result<Answer, StepFault>
         ensures ok { IfOk result (λ answer. count_step self.old order.now ≡ Ok (record { world = self.new; answer = answer })) }
         ensures refused { IfErr result (λ fault. Refuses fault (world_step (of_counts self.old) order.now)) }
+        ensures fits { IfOk result (λ answer. FitsWith order.now answer) }
         ensures kept { OnErr result (self.new ≡ self.old) }
     {
         match order {
@@ -91,15 +93,10 @@ impl CountWorld {
         }
     }
 
-    fn epoch(&self) -> u32
-        ensures { result ≡ self.now.epoch }
-    {
-        self.epoch
-    }
-
     fn report(&self, epoch: u32) -> Result<Answer, StepFault>
         ensures ok { IfOk result (λ answer. count_step self.now (Order.Report epoch) ≡ Ok (record { world = self.now; answer = answer })) }
         ensures refused { IfErr result (λ fault. Refuses fault (world_step (of_counts self.now) (Order.Report epoch))) }
+        ensures fits { IfOk result (λ answer. FitsWith (Order.Report epoch) answer) }
     {
         if epoch != self.epoch {
             return Err(StepFault::WrongEpoch {
@@ -139,9 +136,10 @@ impl CountWorld {
     fn advance(&mut self, epoch: u32, round: u64, updates: &[Update]) -> Result<Answer, StepFault>
         ensures ok { IfOk result (λ answer. count_step self.old (Order.Step epoch round updates.now) ≡ Ok (record { world = self.new; answer = answer })) }
         ensures refused { IfErr result (λ fault. Refuses fault (world_step (of_counts self.old) (Order.Step epoch round updates.now))) }
+        ensures fits { IfOk result (λ answer. FitsWith (Order.Step epoch round updates.now) answer) }
         ensures kept { OnErr result (self.new ≡ self.old) }
     {
-        let had = self.epoch();
+        let had = self.epoch;
         if epoch < had {
             return Err(StepFault::WrongEpoch { had, got: epoch });
         }

@@ -2,7 +2,6 @@ pub mod Answering
 pub mod Ends
 pub mod Quiet
 pub mod Reading
-pub mod Sending
 pub mod Passing
 pub mod Splitting
 pub mod Stepping

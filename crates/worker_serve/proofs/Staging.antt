@@ -1,19 +1,26 @@
 -- Which frame leads to which stage, and which is refused.
-use Rattle.std.proofs.Common.{◌≡◌, true, false, List, [], ◌∷◌, ◌++◌, map, refl, sym, ap, ◌∙◌, inl, inr, append_assoc, subst}
+use Rattle.std.proofs.Common.{◌≡◌, arith, true, false, List, [], ◌∷◌, ◌++◌, map, refl, sym, ap, ◌∙◌, inl, inr, append_assoc, subst}
 use Rattle.std.specs.Prelude.{IsOk, Some, None, Ok, Err}
 use Rattle.px_base.specs.declared.wire.Order.{Order}
+use Rattle.px_base.specs.declared.wire.Order.TheVariants.{Step, Report}
+use Rattle.std.proofs.lemmas.List.Elements.{All-weaker}
 use Rattle.px_base.specs.declared.wire.Answer.{Answer}
 use Rattle.px_base.specs.declared.frame.Setup.{Setup}
 use Rattle.px_base.specs.declared.frame.Frame.{Frame}
 use Rattle.px_base.specs.declared.frame.Frame.TheVariants as frame
 use Rattle.px_base.specs.Classes.{class_of}
 use Rattle.px_base.specs.Core.{core_form}
-use Rattle.px_base.specs.Worlds.{World, new_world, Refusal}
-use Rattle.px_base.specs.FrameFits.{FrameFits}
+use Rattle.px_base.specs.Worlds.{World, new_world, Refusal, CarriesValues, updates_in}
+use Rattle.px_base.specs.FrameFits.{FrameFits, IsVertex}
+use Rattle.px_base.specs.Values.{IsValue}
 use Rattle.px_base.specs.WorldSteps.{world_step}
+use Rattle.px_base.specs.Steps.{Refuses as IsFaultOf}
+use Rattle.px_base.specs.declared.wire.StepFault.{StepFault}
+use Rattle.px_base.specs.declared.wire.StepFault.TheVariants as step_fault
+use Rattle.worker_serve.specs.declared.stage.TakeFault.TheVariants as take_fault
 use Rattle.part_loads.specs.Loads.{LoadData, AreInOrder, IsWhole, loaded_part, with_piece}
 use Rattle.worker_serve.specs.Sessions.{Answered, answer_next, answer_all, before_orders, load_frames, AreLoading, AreServed, Takes, Refuses}
-use Rattle.worker_serve.specs.Stages.{order_in, is_ready}
+use Rattle.worker_serve.specs.Stages.{order_in, is_ready, fault_of_step}
 use Rattle.worker_serve.proofs.Splitting.{one_split, ends_last, not_all_pieces, order_more}
 use Rattle.worker_serve.proofs.Answering.{answer_more}
 
@@ -176,3 +183,15 @@ order_is (frame.Answer x) order e = cc
 -- an order fits where its frame does
 pub order_fits : (f : Frame) (order : Order) → order_in f ≡ Some order → FrameFits f → FrameFits (frame.Order order)
 order_fits f order e fits = subst FrameFits (order_is f order e) fits
+
+-- the values that the order of a frame carries are values
+pub order_carries : (order : Order) → FrameFits (frame.Order order) → CarriesValues (updates_in order)
+order_carries (Step epoch round updates) fits = All-weaker (λ u. IsVertex u.vertex × IsValue u.value) (λ u. IsValue u.value) (λ u h. h.1) updates fits.3.each
+order_carries (Report epoch) fits = λ k d below. absurd (omega (arith, below))
+
+-- An order that the world answers by a fault that isn't want of memory.
+pub refuse_fault : (load : LoadData) (orders : List Order) (so_far : Answered) (frames : List Frame) (f : Frame) (order : Order) (fault : StepFault) →
+    AreServed load orders so_far frames → order_in f ≡ Some order → IsFaultOf fault (world_step so_far.world order) → fault_of_step fault ≡ take_fault.Refused → Refuses (frames ++ f ∷ [])
+refuse_fault load orders so_far frames f order (step_fault.WrongEpoch had got) served some is refused = refuse_order load orders so_far frames f order _ served some is
+refuse_fault load orders so_far frames f order (step_fault.Foreign vertex) served some is refused = refuse_order load orders so_far frames f order _ served some is
+refuse_fault load orders so_far frames f order step_fault.Memory served some is refused = absurd (cc)

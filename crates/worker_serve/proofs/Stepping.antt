@@ -13,7 +13,7 @@ use Rattle.worker_serve.specs.declared.stage.TakeFault.TheVariants as take_fault
 use Rattle.worker_serve.specs.declared.stage.Stage.{Stage}
 use Rattle.worker_serve.specs.Sessions.{Refuses}
 use Rattle.worker_serve.specs.Talks.{Talk, fed_more, took_one, ended_by, end_of, Says, IsFed, IsPartly, IsTornAfter, answer_bytes}
-use Rattle.worker_serve.specs.Stages.{IsStageAfter, IsStageNext, StageSends, IsUpTo, GoesOn, KeepsTalk, IsStep, AreStepped, AllSays, end_of_fault}
+use Rattle.worker_serve.specs.Stages.{IsStageAfter, IsStageNext, IsUpTo, GoesOn, KeepsTalk, IsStep, AreStepped, AllSays, end_of_fault}
 use Rattle.worker_serve.proofs.Reading.{IsNext, next_frame, up_to_next, refused_next, took_short, all_taken, added_behind, partly, taken_whole, torn_after, up_to_more}
 
 -- how far a session is whose decoder took as many frames
@@ -39,8 +39,8 @@ pub record IsTakenStep (self talk : Talk) (fed : Fed) (next : Stage) (at : ℕ) 
 
 pub step_taken : (self talk after : Talk) (fed fed' : Fed) (now next : Stage) (at at' : ℕ) (this : Frame) (ended : Option ServeEnd) (old new : List ℕ) → talk ≡ self → talk.end ≡ None → ended ≡ talk.end →
     GoesOn talk fed now at → IsOldest fed (Some this) → fed' ≡ took_more fed → ((frames : List Frame) (answers : List Answer) → IsStageAfter frames answers now → IsStageNext frames answers this old new next) →
-    StageSends next → at' ≡ min (at + length (spelling this)) (2 ^ 62) → after ≡ took_one talk (drop (length old) new) → IsTakenStep self after fed' next at' ended old new
-step_taken self talk after fed fed' now next at at' this ended old new same on is_end goes oldest took to sends place talk_is =
+    at' ≡ min (at + length (spelling this)) (2 ^ 62) → after ≡ took_one talk (drop (length old) new) → IsTakenStep self after fed' next at' ended old new
+step_taken self talk after fed fed' now next at at' this ended old new same on is_end goes oldest took to place talk_is =
     let n = next_of talk fed now at this goes oldest in
     let stage = to n.it.frames n.it.answers n.it.stage in
     let then = up_to_next talk.bytes talk.told fed.took at now next this n old new stage in
@@ -54,7 +54,7 @@ step_taken self talk after fed fed' now next at at' this ended old new same on i
     record {
       keeps = record {
         end = is_end ∙ sym (ap (λ t. t.end) talk_is);
-        goes_on = λ _. record { bytes = ap (λ f. f.bytes) took ∙ goes.bytes ∙ sym bytes; took = ap (λ f. f.took) took ∙ count; up_to = now_up; sends = sends };
+        goes_on = λ _. record { bytes = ap (λ f. f.bytes) took ∙ goes.bytes ∙ sym bytes; took = ap (λ f. f.took) took ∙ count; up_to = now_up };
       };
       step = record {
         more = drop (length old) new;
@@ -109,7 +109,6 @@ goes_on_fed talk after fed fed' now at piece goes fed_is talk_is =
       bytes = ap (λ bs. bs ++ piece) goes.bytes;
       took = goes.took;
       up_to = up_to_more talk.bytes piece talk.told talk.took at now goes.up_to;
-      sends = goes.sends;
     } in
     subst (λ f. GoesOn after f now at) (sym fed_is) (subst (λ t. GoesOn t (fed_bytes fed piece) now at) (sym talk_is) more)
 

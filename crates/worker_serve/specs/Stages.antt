@@ -1,16 +1,15 @@
 -- How far a session has come, and what its fields keep.
-use Rattle.std.specs.Prelude.{◌≡◌, ℕ, ◌+◌, ◌≤◌, All, Bool, true, false, List, [], ◌∷◌, ◌++◌, length, flat_map, Option, Some, None, Result, Ok, Err, ⊤}
+use Rattle.std.specs.Prelude.{◌≡◌, ℕ, ◌+◌, ◌≤◌, All, Bool, true, false, List, [], ◌∷◌, ◌++◌, length, flat_map, Option, Some, None, Result, Ok, Err}
 use Rattle.px_base.specs.declared.wire.Answer.{Answer}
 use Rattle.px_base.specs.declared.wire.Order.{Order}
+use Rattle.px_base.specs.declared.wire.StepFault.{StepFault}
+use Rattle.px_base.specs.declared.wire.StepFault.TheVariants as step_fault
 use Rattle.px_base.specs.declared.frame.Setup.{Setup}
 use Rattle.px_base.specs.declared.frame.Frame.{Frame}
 use Rattle.px_base.specs.declared.frame.Frame.TheVariants as frame
-use Rattle.px_base.specs.Worlds.{World, of_values, of_counts}
 use Rattle.px_base.specs.Frames.{spelling}
 use Rattle.px_base.specs.FrameFits.{FrameFits}
 use Rattle.px_frames.specs.Decodings.{Fed, counted_bytes}
-use Rattle.count_world.specs.Kept.{KeepsCounts}
-use Rattle.worker_world.specs.Kept.{KeepsLimits}
 use Rattle.part_loads.specs.Loads.{LoadData}
 use Rattle.worker_serve.specs.declared.end.ServeEnd.{ServeEnd}
 use Rattle.worker_serve.specs.declared.end.ServeEnd.TheVariants as end
@@ -20,16 +19,6 @@ use Rattle.worker_serve.specs.declared.stage.Stage.{Stage}
 use Rattle.worker_serve.specs.declared.stage.Stage.TheVariants as stage
 use Rattle.worker_serve.specs.Sessions.{AreLoading, AreServed}
 use Rattle.worker_serve.specs.Talks.{Talk, TakesAll, Says, answer_bytes}
-
--- what a world reports and announces are values, within the limits of a frame
-abbrev pub IsSendable : World → Type 0
-IsSendable (of_values w) = KeepsLimits w
-IsSendable (of_counts w) = KeepsCounts w × All (λ flag. flag ≤ 1) w.alive
-
--- the same of the world of a stage, if there is one
-abbrev pub StageSends : Stage → Type 0
-StageSends (stage.Serving world) = IsSendable world
-StageSends _ = ⊤
 
 -- The frames that were taken led to this stage, and were answered so.
 abbrev pub IsStageAfter : List Frame → List Answer → Stage → Type 0
@@ -75,7 +64,6 @@ pub record GoesOn (talk : Talk) (decoder : Fed) (now : Stage) (at : ℕ) : Type 
   pub bytes : decoder.bytes ≡ talk.bytes
   pub took : decoder.took ≡ talk.took
   pub up_to : IsUpTo talk.bytes talk.told talk.took at now
-  pub sends : StageSends now
 
 -- what the fields keep of what was said
 pub record KeepsTalk (talk : Talk) (decoder : Fed) (now : Stage) (at : ℕ) (ended : Option ServeEnd) : Type 0 where
@@ -109,6 +97,12 @@ pub record AreStepped (old new : Talk) (before now : List ℕ) (result : Result 
   pub told : new.told ≡ old.told ++ more
   pub bytes : new.bytes ≡ old.bytes
   pub says : AllSays new result
+
+-- why an order isn't taken, by the fault of the world
+abbrev pub fault_of_step : StepFault → TakeFault
+fault_of_step (step_fault.WrongEpoch had got) = take_fault.Refused
+fault_of_step (step_fault.Foreign vertex) = take_fault.Refused
+fault_of_step step_fault.Memory = take_fault.Memory
 
 -- how a session ends where it doesn't take the frame at this place
 abbrev pub end_of_fault : TakeFault → ℕ → ServeEnd

@@ -1,4 +1,4 @@
-ghost use Rattle.std.specs.Prelude.{◌≡◌, ◌++◌, ◌∷◌, [], ◌≤◌, ◌^◌, List, OnErr, IfOk, IsOk, IsErr, Err, false};
+ghost use Rattle.std.specs.Prelude.{◌≡◌, ◌++◌, ◌∷◌, [], ◌≤◌, ◌^◌, List, OnOk, OnErr, IfOk, IsOk, IsErr, Err, false};
 ghost use Rattle.px_base.specs.declared.wire.Answer.{Answer as AnswerData};
 ghost use Rattle.px_base.specs.declared.wire.Order.{Order as OrderData};
 ghost use Rattle.px_base.specs.declared.frame.Frame.{Frame as FrameData};
@@ -7,10 +7,9 @@ ghost use Rattle.px_base.specs.Classes.{class_of};
 ghost use Rattle.px_base.specs.FrameFits.{FrameFits};
 ghost use Rattle.worker_serve.specs.Sessions.{Refuses};
 ghost use Rattle.part_loads.specs.Loads.{IsWhole};
-ghost use Rattle.worker_world.specs.Kept.{KeepsWorld};
 ghost use Rattle.worker_serve.specs.Sessions.{AreLoading};
 ghost use Rattle.worker_serve.specs.declared.stage.Stage.TheVariants as stage;
-ghost use Rattle.worker_serve.specs.Stages.{IsSendable, IsStageAfter, IsStageNext, StageSends, setup_in, order_in, is_ready};
+ghost use Rattle.worker_serve.specs.Stages.{IsStageAfter, IsStageNext, setup_in, order_in, is_ready};
 ghost use Rattle.worker_serve.specs.Talks.{answer_bytes};
 
 use class_checker::classify;
@@ -50,6 +49,21 @@ impl From<Memory> for TakeFault {
 
     fn from(_e: Memory) -> TakeFault {
         TakeFault::Memory
+    }
+}
+
+impl From<StepFault> for TakeFault {
+    ghost use Rattle.std.specs.Prelude.{◌≡◌};
+    ghost use Rattle.worker_serve.specs.Stages.{fault_of_step};
+
+    ghost from_gives = { λ fault e. e ≡ fault_of_step fault };
+
+    fn from(fault: StepFault) -> TakeFault {
+        match fault {
+            StepFault::WrongEpoch { .. } => TakeFault::Refused,
+            StepFault::Foreign { .. } => TakeFault::Refused,
+            StepFault::Memory => TakeFault::Memory,
+        }
     }
 }
 
@@ -106,7 +120,6 @@ fn begin(alloc: Global, frame: Frame) -> Result<Stage, TakeFault>
     requires { FrameFits frame }
     ensures ok { IfOk result (λ next. IsStageAfter (frame ∷ []) [] next) }
     ensures refused { IsErr result → Refuses (frame ∷ []) }
-    ensures sends { IfOk result (λ next. StageSends next) }
 {
     let Some(setup) = setup_in(&frame) else {
         return Err(TakeFault::Refused);
@@ -124,7 +137,6 @@ fn add_piece(load: Load, frame: Frame) -> Result<Stage, TakeFault>
     requires not_ready { is_ready frame ≡ false }
     ensures ok { (frames : List FrameData) → AreLoading load frames → IfOk result (λ next. IsStageAfter (frames ++ frame ∷ []) [] next) }
     ensures refused { (frames : List FrameData) → AreLoading load frames → result ≡ Err TakeFault.Refused → Refuses (frames ++ frame ∷ []) }
-    ensures sends { IfOk result (λ next. StageSends next) }
 {
     let mut load = load;
     match load.add(frame) {
@@ -134,18 +146,10 @@ fn add_piece(load: Load, frame: Frame) -> Result<Stage, TakeFault>
     }
 }
 
-/// What the type of a world keeps, for contracts alone.
-fn keeps(world: &World)
-    ensures { KeepsWorld world.now }
-{
-    let _ = world.masters();
-}
-
 /// The end of the load: its world is made, where the part is whole.
 fn make_world(alloc: Global, load: Load) -> Result<Stage, TakeFault>
     ensures ok { (frames : List FrameData) → AreLoading load frames → IfOk result (λ next. IsStageAfter (frames ++ frame.Ready ∷ []) [] next) }
     ensures refused { (frames : List FrameData) → AreLoading load frames → result ≡ Err TakeFault.Refused → Refuses (frames ++ frame.Ready ∷ []) }
-    ensures sends { IfOk result (λ next. StageSends next) }
 {
     let setup = load.setup();
     let core = core_form(&setup.program);
@@ -153,7 +157,6 @@ fn make_world(alloc: Global, load: Load) -> Result<Stage, TakeFault>
         return Err(TakeFault::Refused);
     };
     let world = World::new(alloc, part, core, setup.chunks)?;
-    keeps(&world);
     Ok(Stage::Serving(world))
 }
 
@@ -162,7 +165,6 @@ fn load_on(alloc: Global, load: Load, frame: Frame) -> Result<Stage, TakeFault>
     requires { FrameFits frame }
     ensures ok { (frames : List FrameData) → AreLoading load frames → IfOk result (λ next. IsStageAfter (frames ++ frame ∷ []) [] next) }
     ensures refused { (frames : List FrameData) → AreLoading load frames → result ≡ Err TakeFault.Refused → Refuses (frames ++ frame ∷ []) }
-    ensures sends { IfOk result (λ next. StageSends next) }
 {
     if is_ready(&frame) {
         make_world(alloc, load)
@@ -174,31 +176,21 @@ fn load_on(alloc: Global, load: Load, frame: Frame) -> Result<Stage, TakeFault>
 /// A frame after the load: the world answers the order, and the answer's frame is appended. After an `Err` nothing is.
 fn obey<R: Threads + Sync>(
     rt: &R,
-    world: World,
+    world: &mut World,
     frame: Frame,
     out: &mut Vec<u8>,
-) -> Result<Stage, TakeFault>
-    requires fits { FrameFits frame }
-    requires sends { IsSendable world }
-    ensures ok { (frames : List FrameData) (answers : List AnswerData) → IsStageAfter frames answers (stage.Serving world) → IfOk result (λ next. IsStageNext frames answers frame out.old.items out.new.items next) }
-    ensures refused { (frames : List FrameData) (answers : List AnswerData) → IsStageAfter frames answers (stage.Serving world) → result ≡ Err TakeFault.Refused → Refuses (frames ++ frame ∷ []) }
-    ensures sends { IfOk result (λ next. StageSends next) }
+) -> Result<(), TakeFault>
+    requires { FrameFits frame }
+    ensures ok { (frames : List FrameData) (answers : List AnswerData) → IsStageAfter frames answers (stage.Serving world.old) → OnOk result (IsStageNext frames answers frame out.old.items out.new.items (stage.Serving world.new)) }
+    ensures refused { (frames : List FrameData) (answers : List AnswerData) → IsStageAfter frames answers (stage.Serving world.old) → result ≡ Err TakeFault.Refused → Refuses (frames ++ frame ∷ []) }
     ensures silent { OnErr result (out.new.items ≡ out.old.items) }
 {
-    let mut world = world;
     let Some(order) = order_in(frame) else {
         return Err(TakeFault::Refused);
     };
-    match world.step(rt, &order) {
-        Ok(answer) => {
-            keeps(&world);
-            write_frame(out, &Frame::Answer(answer))?;
-            Ok(Stage::Serving(world))
-        }
-        Err(StepFault::WrongEpoch { .. }) => Err(TakeFault::Refused),
-        Err(StepFault::Foreign { .. }) => Err(TakeFault::Refused),
-        Err(StepFault::Memory) => Err(TakeFault::Memory),
-    }
+    let answer = world.step(rt, &order)?;
+    write_frame(out, &Frame::Answer(answer))?;
+    Ok(())
 }
 
 /// Takes the next frame. What it is answered is appended, and after an `Err` nothing is.
@@ -209,16 +201,17 @@ pub fn next_stage<R: Threads + Sync>(
     frame: Frame,
     out: &mut Vec<u8>,
 ) -> Result<Stage, TakeFault>
-    requires fits { FrameFits frame }
-    requires sends { StageSends stage }
+    requires { FrameFits frame }
     ensures ok { (frames : List FrameData) (answers : List AnswerData) → IsStageAfter frames answers stage → IfOk result (λ next. IsStageNext frames answers frame out.old.items out.new.items next) }
     ensures refused { (frames : List FrameData) (answers : List AnswerData) → IsStageAfter frames answers stage → result ≡ Err TakeFault.Refused → Refuses (frames ++ frame ∷ []) }
-    ensures sends { IfOk result (λ next. StageSends next) }
     ensures silent { OnErr result (out.new.items ≡ out.old.items) }
 {
     match stage {
         Stage::Waiting => begin(alloc, frame),
         Stage::Loading(load) => load_on(alloc, load, frame),
-        Stage::Serving(world) => obey(rt, world, frame, out),
+        Stage::Serving(mut world) => {
+            obey(rt, &mut world, frame, out)?;
+            Ok(Stage::Serving(world))
+        }
     }
 }

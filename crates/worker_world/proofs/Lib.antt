@@ -1,4 +1,5 @@
 pub mod Changing
+pub mod Fitting
 pub mod Flat
 pub mod Gathered
 pub mod Halved

@@ -40,6 +40,7 @@ impl ValueWorld {
     ghost use Rattle.px_base.specs.Steps.{Refuses};
     ghost use Rattle.px_base.specs.Worlds.{new_world, masters_of, epoch_of, takes_update, updates_in, CarriesValues, is_fresh, first_foreign, foreign};
     ghost use Rattle.px_base.specs.WorldSteps.{world_step};
+    ghost use Rattle.count_world.specs.Answers.{FitsWith};
     ghost use Rattle.worker_world.specs.Kept.{KeepsValues};
 
     /// The new world of a part for a program: each master and each mirror has its start value where the program keeps what
@@ -79,11 +80,13 @@ impl ValueWorld {
 
     /// One step. A Step of the world's epoch or a later one puts its updates in place and renews all masters at once; a
     /// Report of the world's epoch is answered by the values of all masters. Errors: the epoch doesn't go with the
-    /// world's, an update is of a vertex that is no mirror, want of memory. An error changes nothing.
+    /// world's, an update is of a vertex that is no mirror, want of memory. An error changes nothing. Where the order has a
+    /// frame, so has the answer.
     pub fn step(&mut self, order: &Order) -> Result<Answer, StepFault>
         requires values { CarriesValues (updates_in order.now) }
         ensures ok { IfOk result (λ answer. world_step self.old order.now ≡ Ok (record { world = self.new; answer = answer })) }
         ensures refused { IfErr result (λ fault. Refuses fault (world_step self.old order.now)) }
+        ensures fits { IfOk result (λ answer. FitsWith order.now answer) }
         ensures kept { OnErr result (self.new ≡ self.old) }
     {
         match order {
@@ -96,15 +99,10 @@ impl ValueWorld {
         }
     }
 
-    fn epoch(&self) -> u32
-        ensures { result ≡ epoch_of self.now }
-    {
-        self.epoch
-    }
-
     fn report(&self, epoch: u32) -> Result<Answer, StepFault>
         ensures ok { IfOk result (λ answer. world_step self.now (Order.Report epoch) ≡ Ok (record { world = self.now; answer = answer })) }
         ensures refused { IfErr result (λ fault. Refuses fault (world_step self.now (Order.Report epoch))) }
+        ensures fits { IfOk result (λ answer. FitsWith (Order.Report epoch) answer) }
     {
         if epoch != self.epoch {
             return Err(StepFault::WrongEpoch {
@@ -147,9 +145,10 @@ impl ValueWorld {
         requires { CarriesValues updates.now }
         ensures ok { IfOk result (λ answer. world_step self.old (Order.Step epoch round updates.now) ≡ Ok (record { world = self.new; answer = answer })) }
         ensures refused { IfErr result (λ fault. Refuses fault (world_step self.old (Order.Step epoch round updates.now))) }
+        ensures fits { IfOk result (λ answer. FitsWith (Order.Step epoch round updates.now) answer) }
         ensures kept { OnErr result (self.new ≡ self.old) }
     {
-        let had = self.epoch();
+        let had = self.epoch;
         if epoch < had {
             return Err(StepFault::WrongEpoch { had, got: epoch });
         }

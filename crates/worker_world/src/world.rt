@@ -37,6 +37,7 @@ impl World {
     ghost use Rattle.px_base.specs.Steps.{Refuses};
     ghost use Rattle.px_base.specs.Worlds.{new_world, masters_of, updates_in, CarriesValues};
     ghost use Rattle.px_base.specs.WorldSteps.{world_step};
+    ghost use Rattle.count_world.specs.Answers.{FitsWith};
     ghost use Rattle.worker_world.specs.Kept.{KeepsWorld};
 
     /// The new world of a part for a program. Where it counts, all masters are alive, and each counts its whole row. Else
@@ -74,11 +75,12 @@ impl World {
     /// One step. A Step of the world's epoch or a later one puts its updates in place and renews all masters at once, or takes
     /// its updates off the counts and lets masters die; a Report of the world's epoch is answered by what the world reports of
     /// all masters. Errors: the epoch doesn't go with the world's, an update is of a vertex of which the world takes none, want
-    /// of memory. An error changes nothing.
+    /// of memory. An error changes nothing. Where the order has a frame, so has the answer.
     pub fn step<R: Threads + Sync>(&mut self, _rt: &R, order: &Order) -> Result<Answer, StepFault>
         requires values { CarriesValues (updates_in order.now) }
         ensures ok { IfOk result (λ answer. world_step self.old order.now ≡ Ok (record { world = self.new; answer = answer })) }
         ensures refused { IfErr result (λ fault. Refuses fault (world_step self.old order.now)) }
+        ensures fits { IfOk result (λ answer. FitsWith order.now answer) }
         ensures kept { OnErr result (self.new ≡ self.old) }
     {
         match &mut self.kind {

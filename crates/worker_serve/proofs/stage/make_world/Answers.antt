@@ -3,7 +3,6 @@ use Rattle.px_base.specs.Core.{core_form}
 use Rattle.px_base.specs.Worlds.{new_world}
 use Rattle.part_loads.specs.Loads.{IsWhole, loaded_part}
 use Rattle.worker_serve.proofs.Staging.{refuse_end, serves}
-use Rattle.worker_serve.proofs.Sending.{new_world_sends}
 use Rattle.worker_serve.proofs.stage.make_world.Goals as goal
 
 pub returns-in_default-clause-refused : goal.returns-in_default-clause-refused
@@ -17,6 +16,3 @@ returns-clause-ok c = λ frames loading.
     let world : c.in_ok-world.world ≡ new_world (loaded_part c.args.load) (core_form c.args.load.setup.program) =
     c.in_ok-world.ensures ∙ ap (λ p. new_world p c.core_form-core.result) part ∙ ap (λ k. new_world (loaded_part c.args.load) k) core in
     (c.args.load, [], serves c.args.load frames c.in_ok-world.world loading whole world))
-
-pub returns-clause-sends : goal.returns-clause-sends
-returns-clause-sends c = new_world_sends c.in_ok-world.world c.in-Some.part c.core_form-core.result c.in_ok-world.ensures c.keeps.ensures

@@ -1,4 +1,4 @@
-use Rattle.std.proofs.Common.{◌≡◌, ◌∷◌, ◌++◌, [], sym, subst}
+use Rattle.std.proofs.Common.{◌≡◌, ◌∷◌, ◌++◌, ◌∙◌, [], Err, ap, sym, subst}
 use Rattle.std.specs.Prelude.{IfOk}
 use Rattle.worker_serve.specs.Sessions.{AreLoading, Refuses}
 use Rattle.worker_serve.specs.Stages.{IsStageAfter}
@@ -26,6 +26,7 @@ returns-in-Loading-clause-refused o c = λ frames answers it why.
     (let was : AreLoading c.in-Loading.load frames × (answers ≡ []) = subst (λ s. IsStageAfter frames answers s) c.in-Loading.is it in
     c.load_on.ensures.refused frames was.0 why)
 
-pub returns-in-Serving-clause-refused : goal.returns-in-Serving-clause-refused
-returns-in-Serving-clause-refused o c = λ frames answers it why.
-    c.obey.ensures.refused frames answers (subst (λ s. IsStageAfter frames answers s) c.in-Serving.is it) why
+pub returns-in_err-obey-in-Serving-clause-refused : goal.returns-in_err-obey-in-Serving-clause-refused
+returns-in_err-obey-in-Serving-clause-refused o c = λ frames answers it why.
+    (let same = rw why at c.from_residual.ensures.1 in
+    c.obey.ensures.refused frames answers (subst (λ s. IsStageAfter frames answers s) c.in-Serving.is it) (c.in_err-obey-in-Serving.was ∙ ap Err (sym same)))

@@ -15,6 +15,6 @@ returns-clause-ok c =
     rw (← c.self.view_is, c.in_ok-changed.ensures.needed)
     (step_made (counting_of c.self.inside) after.readers c.args.epoch c.args.round c.args.updates.now after.again.items after.gone.items
     (counts_read part fresh c.args.updates.now after.readers after.again.items old.census.counts.items) after.census.alive.items after.census.counts.items c.in_ok-changed.changed c.from_vec.result
-    c.self.invariant.world c.in_ok-changed.ensures.ready.tables.readers c.self.invariant.ready.census.flags (search rules) (search rules)
+    c.self.invariant.world c.in_ok-changed.ensures.ready.tables.readers (search rules) (search rules)
     step.again refl step.gone step.alive step.counts step.some
     (c.from_vec.ensures ∙ step.tells))

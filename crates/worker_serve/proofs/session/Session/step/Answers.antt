@@ -14,10 +14,10 @@ spelled_length-length-requires g c =
     (let on : c.self.inside.said.end ≡ None = ap (λ t. t.end) c.self.view_is ∙ c.requires in
     (next_of c.self.inside.said c.self.inside.decoder c.self.inside.stage c.self.inside.at c.in-Some.frame (c.self.invariant.goes_on on) c.in-Some.ensures.oldest).fits)
 
-pub next_stage-requires-clause-fits : goal.next_stage-requires-clause-fits
-next_stage-requires-clause-fits g c κs within =
+pub next_stage-requires : goal.next_stage-requires
+next_stage-requires g c =
     (let on : c.self.inside.said.end ≡ None = ap (λ t. t.end) c.self.view_is ∙ c.requires in
-    (next_of c.self.inside.said c.self.inside.decoder c.self.inside.stage c.self.inside.at c.in-Some.frame (c.self.invariant.goes_on on) c.in-Some.ensures.oldest).fits)
+    (c.type_bounds.sync-R, (next_of c.self.inside.said c.self.inside.decoder c.self.inside.stage c.self.inside.at c.in-Some.frame (c.self.invariant.goes_on on) c.in-Some.ensures.oldest).fits))
 
 pub told_since-requires : goal.told_since-requires
 told_since-requires g c =
@@ -37,7 +37,7 @@ invariant_of-self-in-Ok g c =
     let count : c.len-before.result ≡ length c.args.out.now.items = c.len-before.ensures ∙ sym long in
     step_taken c.args.self.now c.self.inside.said c.note_taken.new.said c.self.inside.decoder c.next.new.self c.self.inside.stage c.in-Ok.next c.self.inside.at c.further-self-inside.result c.in-Some.frame c.self.inside.ended
     c.args.out.now.items c.next_stage.new.out.items c.self.view_is on c.self.invariant.end (c.self.invariant.goes_on on) c.in-Some.ensures.oldest c.in-Some.ensures.took
-    (λ frames answers is. c.in-Ok.ensures.ok frames answers (subst (λ s. IsStageAfter frames answers s) (sym c.replace-stage.ensures.value) is)) c.in-Ok.ensures.sends
+    (λ frames answers is. c.in-Ok.ensures.ok frames answers (subst (λ s. IsStageAfter frames answers s) (sym c.replace-stage.ensures.value) is))
     (c.further-self-inside.ensures ∙ ap (λ k. min (c.self.inside.at + k) (2 ^ 62)) c.spelled_length-length.ensures)
     (c.note_taken.ensures ∙ ap (took_one c.self.inside.said) (c.told_since.ensures ∙ ap (λ k. drop k c.next_stage.new.out.items) count))).keeps
 
@@ -48,7 +48,7 @@ returns-in-Ok g c =
     let count : c.len-before.result ≡ length c.args.out.now.items = c.len-before.ensures ∙ sym long in
     step_taken c.args.self.now c.self.inside.said c.note_taken.new.said c.self.inside.decoder c.next.new.self c.self.inside.stage c.in-Ok.next c.self.inside.at c.further-self-inside.result c.in-Some.frame c.self.inside.ended
     c.args.out.now.items c.next_stage.new.out.items c.self.view_is on c.self.invariant.end (c.self.invariant.goes_on on) c.in-Some.ensures.oldest c.in-Some.ensures.took
-    (λ frames answers is. c.in-Ok.ensures.ok frames answers (subst (λ s. IsStageAfter frames answers s) (sym c.replace-stage.ensures.value) is)) c.in-Ok.ensures.sends
+    (λ frames answers is. c.in-Ok.ensures.ok frames answers (subst (λ s. IsStageAfter frames answers s) (sym c.replace-stage.ensures.value) is))
     (c.further-self-inside.ensures ∙ ap (λ k. min (c.self.inside.at + k) (2 ^ 62)) c.spelled_length-length.ensures)
     (c.note_taken.ensures ∙ ap (took_one c.self.inside.said) (c.told_since.ensures ∙ ap (λ k. drop k c.next_stage.new.out.items) count))).step
 

@@ -1,9 +1,9 @@
-ghost use Rattle.std.specs.Prelude.{◌≡◌, ◌≢◌, ◌≤◌, ◌&&◌, false, true, not, IsTrue, Err, IfOk, Ok, OnErr, List};
+ghost use Rattle.std.specs.Prelude.{◌≡◌, ◌≢◌, ◌≤◌, ◌&&◌, false, true, not, ℕ, IsTrue, Err, IfOk, Ok, OnErr, OnOk, List};
 ghost use Rattle.std.specs.List.Sorted.{IsStrictlyIncreasing};
 ghost use Rattle.px_base.specs.Lines.{EdgeListFits, IdEdge, IsEdgeListOf};
 ghost use Rattle.px_base.specs.RowTexts.{IsRowProgram};
 ghost use Rattle.px_base.specs.Starts.{uses_weight};
-ghost use Rattle.px_io.specs.Causes.{Rose};
+ghost use Rattle.px_io.specs.Causes.{Rose, RoseAtMostOnce};
 ghost use Rattle.command_texts.specs.Endings.{after_edges, after_sources, classified};
 ghost use Rattle.command_texts.specs.Jobs.{JobFits, reads_source, reads_weights};
 ghost use Rattle.command_texts.specs.Solutions.{EndsAs, IsOfEdges, IsSolution, with_text};
@@ -143,6 +143,10 @@ fn text_of_input<R: Threads + Sync, S: Source>(
     ensures unwritten { result ≡ Err Stop.WriteFault → ⊥ }
     ensures faults_later { S.faults source.old ≤ S.faults source.new }
     ensures no_fault { result ≢ Err (Stop.Input EdgeFault.ReadFault) → S.faults source.new ≡ S.faults source.old }
+    ensures ended { OnOk result (Rose (S.ends_told source.old) (S.ends_told source.new)) }
+    ensures unknown { (id : ℕ) → result ≡ Err (Stop.UnknownSource id) → Rose (S.ends_told source.old) (S.ends_told source.new) }
+    ensures not_ended { result ≡ Err (Stop.Input EdgeFault.ReadFault) → S.ends_told source.new ≡ S.ends_told source.old }
+    ensures ended_once { RoseAtMostOnce (S.ends_told source.old) (S.ends_told source.new) }
 {
     match read_edges(alloc, source, reads_weights(job)) {
         Ok(list) => text_of(rt, alloc, job, &list),
@@ -165,6 +169,10 @@ pub fn job_text<R: Threads + Sync, S: Source>(
     ensures unwritten { result ≡ Err Stop.WriteFault → ⊥ }
     ensures faults_later { S.faults source.old ≤ S.faults source.new }
     ensures no_fault { result ≢ Err (Stop.Input EdgeFault.ReadFault) → S.faults source.new ≡ S.faults source.old }
+    ensures ended { reads_source (Ok job.now) ≡ true → OnOk result (Rose (S.ends_told source.old) (S.ends_told source.new)) }
+    ensures unknown { (id : ℕ) → reads_source (Ok job.now) ≡ true → result ≡ Err (Stop.UnknownSource id) → Rose (S.ends_told source.old) (S.ends_told source.new) }
+    ensures not_ended { result ≡ Err (Stop.Input EdgeFault.ReadFault) → S.ends_told source.new ≡ S.ends_told source.old }
+    ensures ended_once { RoseAtMostOnce (S.ends_told source.old) (S.ends_told source.new) }
 {
     match job {
         Job::Classify { class } => class_line(alloc, *class),

@@ -31,12 +31,13 @@ fn solve_in_place(
     Ok(())
 }
 
-/// The answer of a locally correcting program on the graph: the greatest consistent list. It is found in core values, in place:
-/// by sweeps over the vertices in rising order, 12 at most, until a sweep changes nothing. Where the last of them still changes
-/// something, changes are followed from there: whoever falls tells those who read it, first come first told. So a vertex is
-/// looked at again only where one that it reads has fallen. The list of values takes 8 bytes for each vertex, and the marks of
-/// those that fell take 1; to follow changes takes 8 bytes for each read and 8 for each vertex besides. Errors: want of
-/// memory, also where changes are to be followed over 2^32 reads or more.
+/// The answer of a locally correcting program on the graph: the greatest consistent list. It is found in core values, in place.
+/// Where at most a sixteenth of the vertices have something to tell, changes are followed at once: whoever falls tells those who
+/// read it, first come first told. So a vertex is looked at again only where one that it reads has fallen. Where more have, sweeps
+/// over the vertices in rising order come first, 12 at most, until a sweep changes nothing; where the last of them still changes
+/// something, changes are followed from there. The list of values takes 8 bytes for each vertex, and the marks of those that fell
+/// take 1; to follow changes takes 8 bytes for each read and 8 for each vertex besides. Errors: want of memory, also where changes
+/// are to be followed over 2^32 reads or more.
 pub fn solve_consistent(
     alloc: Global,
     graph: &ReadGraph,

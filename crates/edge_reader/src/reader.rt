@@ -1,6 +1,6 @@
-ghost use Rattle.std.specs.Prelude.{◌≡◌, ◌<◌, ◌≤◌, ◌⊎◌, [], Err, IfOk, length, vec_len};
+ghost use Rattle.std.specs.Prelude.{◌≡◌, ◌<◌, ◌≤◌, ◌⊎◌, [], Err, IfOk, OnOk, length, vec_len};
 ghost use Rattle.px_base.specs.Lines.{EdgeListFits};
-ghost use Rattle.px_io.specs.Causes.{Rose};
+ghost use Rattle.px_io.specs.Causes.{Rose, RoseAtMostOnce};
 ghost use Rattle.edge_reader.specs.Readings.{IsReadingOf};
 ghost use Rattle.edge_reader.specs.Lists.{AreRead, ReadsAll};
 
@@ -37,6 +37,9 @@ fn read_lines<S: Source>(
     ensures cause { result ≡ Err EdgeFault.ReadFault → Rose (S.faults source.old) (S.faults source.new) }
     ensures faults_later { S.faults source.old ≤ S.faults source.new }
     ensures first { result ≡ Err EdgeFault.ReadFault ⊎ (S.faults source.new ≡ S.faults source.old) }
+    ensures ended { OnOk result (Rose (S.ends_told source.old) (S.ends_told source.new)) }
+    ensures not_ended { result ≡ Err EdgeFault.ReadFault → S.ends_told source.new ≡ S.ends_told source.old }
+    ensures ended_once { RoseAtMostOnce (S.ends_told source.old) (S.ends_told source.new) }
 {
     let mut scan = Scan::new();
     let mut total: u64 = 0;
@@ -62,7 +65,7 @@ fn read_lines<S: Source>(
 /// so are lines that begin with `#` or `%` or have no field. A fault is the first on the way from front to back. At most
 /// 2^32 - 1 bytes, 2^24 edge lines and 2^22 vertices are allowed. A source that fails is not tried again: the answer is
 /// `ReadFault` then, and it comes only where the bytes taken before are within their limits and no line that ended in
-/// them has a fault.
+/// them has a fault. Nor is one asked again that said its end, and edges come only then.
 pub fn read_edges<S: Source>(
     alloc: Global,
     source: &mut S,
@@ -73,6 +76,9 @@ pub fn read_edges<S: Source>(
     ensures cause { result ≡ Err EdgeFault.ReadFault → Rose (S.faults source.old) (S.faults source.new) }
     ensures faults_later { S.faults source.old ≤ S.faults source.new }
     ensures first { result ≡ Err EdgeFault.ReadFault ⊎ (S.faults source.new ≡ S.faults source.old) }
+    ensures ended { OnOk result (Rose (S.ends_told source.old) (S.ends_told source.new)) }
+    ensures not_ended { result ≡ Err EdgeFault.ReadFault → S.ends_told source.new ≡ S.ends_told source.old }
+    ensures ended_once { RoseAtMostOnce (S.ends_told source.old) (S.ends_told source.new) }
 {
     let mut space = zeros(alloc, PIECE)?;
     let mut lines = ReadLines::new(alloc, weighted);

@@ -5,7 +5,27 @@ use Rattle.worker_serve.specs.declared.end.ServeEnd.{ServeEnd}
 use Rattle.worker_serve.specs.declared.end.ServeEnd.TheVariants as end
 use Rattle.phoenix_cli.specs.Calls.{Outcome, outcome_of, status_of}
 
--- ---- only a fault of the source is 6, only one of the sink 7, and want of memory is 11
+-- ---- only the end is 0, only a fault of the source 6, only one of the sink 7, no end is 12, and want of memory is 11
+
+zero : (why : ServeEnd) → status_of (outcome_of why) ≡ 0 → why ≡ end.End
+zero end.End e = refl
+zero (end.Torn at) e = absurd (omega (arith, e))
+zero (end.Cut at) e = absurd (omega (arith, e))
+zero (end.Refused at) e = absurd (omega (arith, e))
+zero end.TooLong e = absurd (omega (arith, e))
+zero end.ReadFault e = absurd (omega (arith, e))
+zero end.WriteFault e = absurd (omega (arith, e))
+zero end.Memory e = absurd (omega (arith, e))
+
+twelve : (why : ServeEnd) → status_of (outcome_of why) ≢ 12
+twelve end.End e = omega (arith, e)
+twelve (end.Torn at) e = omega (arith, e)
+twelve (end.Cut at) e = omega (arith, e)
+twelve (end.Refused at) e = omega (arith, e)
+twelve end.TooLong e = omega (arith, e)
+twelve end.ReadFault e = omega (arith, e)
+twelve end.WriteFault e = omega (arith, e)
+twelve end.Memory e = omega (arith, e)
 
 six : (why : ServeEnd) → status_of (outcome_of why) ≡ 6 → why ≡ end.ReadFault
 six end.End e = absurd (omega (arith, e))
@@ -26,6 +46,12 @@ seven end.TooLong e = absurd (omega (arith, e))
 seven end.ReadFault e = absurd (omega (arith, e))
 seven end.WriteFault e = refl
 seven end.Memory e = absurd (omega (arith, e))
+
+pub all_served : (why : ServeEnd) (outcome : Outcome) → outcome ≡ outcome_of why → status_of outcome ≡ 0 → why ≡ end.End
+all_served why outcome is e = zero why (sym (ap status_of is) ∙ e)
+
+pub none_unknown : (why : ServeEnd) (outcome : Outcome) → outcome ≡ outcome_of why → status_of outcome ≢ 12
+none_unknown why outcome is e = twelve why (sym (ap status_of is) ∙ e)
 
 pub read_failed : (why : ServeEnd) (outcome : Outcome) → outcome ≡ outcome_of why → status_of outcome ≡ 6 → why ≡ end.ReadFault
 read_failed why outcome is e = six why (sym (ap status_of is) ∙ e)

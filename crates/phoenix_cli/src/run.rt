@@ -36,6 +36,10 @@ fn write_text<R: Threads + Sync, S: Source, K: Sink>(
     ensures sink_later { K.faults sink.old ≤ K.faults sink.new }
     ensures spared { status_of result ≢ 11 → K.wants sink.new ≡ K.wants sink.old }
     ensures sink_wants { RoseAtMostOnce (K.wants sink.old) (K.wants sink.new) }
+    ensures ended { status_of result ≡ 0 → reads_source (Ok job.now) ≡ true → Rose (S.ends_told source.old) (S.ends_told source.new) }
+    ensures unknown { status_of result ≡ 12 → reads_source (Ok job.now) ≡ true → Rose (S.ends_told source.old) (S.ends_told source.new) }
+    ensures not_ended { status_of result ≡ 6 → S.ends_told source.new ≡ S.ends_told source.old }
+    ensures ended_once { RoseAtMostOnce (S.ends_told source.old) (S.ends_told source.new) }
 {
     let text = match job_text(rt, alloc, job, source) {
         Ok(text) => text,
@@ -71,6 +75,10 @@ fn follow<R: Threads + Sync, S: Source, K: Sink>(
     ensures sink_later { K.faults sink.old ≤ K.faults sink.new }
     ensures spared { status_of result ≢ 11 → K.wants sink.new ≡ K.wants sink.old }
     ensures sink_wants { RoseAtMostOnce (K.wants sink.old) (K.wants sink.new) }
+    ensures ended { status_of result ≡ 0 → plan_reads plan ≡ true → Rose (S.ends_told source.old) (S.ends_told source.new) }
+    ensures unknown { status_of result ≡ 12 → plan_reads plan ≡ true → Rose (S.ends_told source.old) (S.ends_told source.new) }
+    ensures not_ended { status_of result ≡ 6 → S.ends_told source.new ≡ S.ends_told source.old }
+    ensures ended_once { RoseAtMostOnce (S.ends_told source.old) (S.ends_told source.new) }
 {
     match plan {
         Ok(Plan::Write(job)) => write_text(rt, alloc, &job, source, sink),
@@ -101,6 +109,10 @@ fn perform<R: Threads + Sync, S: Source, K: Sink>(
     ensures sink_later { K.faults sink.old ≤ K.faults sink.new }
     ensures spared { status_of result ≢ 11 → K.wants sink.new ≡ K.wants sink.old }
     ensures sink_wants { RoseAtMostOnce (K.wants sink.old) (K.wants sink.new) }
+    ensures ended { status_of result ≡ 0 → plan_reads (plan_of (command_of words.now)) ≡ true → Rose (S.ends_told source.old) (S.ends_told source.new) }
+    ensures unknown { status_of result ≡ 12 → plan_reads (plan_of (command_of words.now)) ≡ true → Rose (S.ends_told source.old) (S.ends_told source.new) }
+    ensures not_ended { status_of result ≡ 6 → S.ends_told source.new ≡ S.ends_told source.old }
+    ensures ended_once { RoseAtMostOnce (S.ends_told source.old) (S.ends_told source.new) }
 {
     match read_command(alloc, words) {
         Ok(command) => follow(rt, alloc, plan(command), source, sink),
@@ -155,6 +167,13 @@ pub fn phoenix<R: Threads + Sync, S: Source, K: Sink, F: Sink>(
     ensures sink_later { K.faults sink.old ≤ K.faults sink.new }
     ensures spared { result ≢ 11 → K.wants sink.new ≡ K.wants sink.old }
     ensures sink_wants { RoseAtMostOnce (K.wants sink.old) (K.wants sink.new) }
+
+    // A source is asked until it says its end, before 0 and 12 where the plan reads it. It isn't asked again then.
+    ensures ended { result ≡ 0 → plan_reads (plan_of (command_of words.now)) ≡ true → Rose (S.ends_told source.old) (S.ends_told source.new) }
+    ensures unknown { result ≡ 12 → plan_reads (plan_of (command_of words.now)) ≡ true → Rose (S.ends_told source.old) (S.ends_told source.new) }
+    ensures not_ended { result ≡ 6 → S.ends_told source.new ≡ S.ends_told source.old }
+    ensures ended_once { RoseAtMostOnce (S.ends_told source.old) (S.ends_told source.new) }
+
     ensures faults_later { F.faults faults.old ≤ F.faults faults.new }
     ensures faults_wants_later { F.wants faults.old ≤ F.wants faults.new }
 {

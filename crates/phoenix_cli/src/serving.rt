@@ -50,6 +50,10 @@ pub fn serve_frames<R: Threads + Sync, S: Source, K: Sink>(
     ensures sink_later { K.faults sink.old ≤ K.faults sink.new }
     ensures spared { status_of result ≢ 11 → K.wants sink.new ≡ K.wants sink.old }
     ensures sink_wants { RoseAtMostOnce (K.wants sink.old) (K.wants sink.new) }
+    ensures ended { status_of result ≡ 0 → Rose (S.ends_told source.old) (S.ends_told source.new) }
+    ensures known { status_of result ≢ 12 }
+    ensures not_ended { status_of result ≡ 6 → S.ends_told source.new ≡ S.ends_told source.old }
+    ensures ended_once { RoseAtMostOnce (S.ends_told source.old) (S.ends_told source.new) }
 {
     outcome_of(serve(rt, alloc, source, sink))
 }

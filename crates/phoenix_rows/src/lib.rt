@@ -2,6 +2,8 @@
 #![tactic(auto)]
 
 #[cfg(test)]
+mod stream_rows;
+#[cfg(test)]
 mod worker_rows;
 
 #[cfg(test)]

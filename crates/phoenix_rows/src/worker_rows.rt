@@ -349,3 +349,12 @@ fn stops_at_a_read_fault(rt: HostRuntime) -> Result<(), Fail> {
     assert_eq!(rt; ran.fault.as_slice(), b"phoenix: read fault\n".as_slice());
     Ok(())
 }
+
+#[test]
+fn asks_no_more_after_the_end(rt: HostRuntime) -> Result<(), Fail> {
+    let input = bytes_of(rt.alloc(), &[SETUP, READY, REPORT])?;
+    let ran = served_failing(&rt, rt.alloc(), &input, 3, 0)?;
+    assert_eq!(rt; ran.status, 0);
+    assert!(rt; ran.fault.is_empty());
+    Ok(())
+}

@@ -1,4 +1,4 @@
-//! Frames between a worker and its hub: one spelling each, and a decoder that takes the bytes in any pieces.
+//! Frames between a worker and whoever started it: one spelling each, and a decoder that takes the bytes in any pieces.
 #![tactic(auto)]
 
 mod decoder;

@@ -20,7 +20,7 @@ pub record IsFrontOfAnswers (bytes told : List ℕ) : Type 0 where
   pub more : List ℕ
   pub partly : IsPartly bytes (told ++ more)
 
--- the most bytes that a session takes, and one more
+-- so many bytes end a session
 abbrev pub BYTES : ℕ
 BYTES = 2 ^ 62
 

@@ -3,7 +3,7 @@ ghost use Rattle.px_base.specs.declared.wire.Answer.{Answer as AnswerData};
 ghost use Rattle.px_base.specs.declared.frame.Frame.{Frame as FrameData};
 ghost use Rattle.px_base.specs.FrameFits.{AreFramesOf};
 ghost use Rattle.std.specs.Io.KnownBytes.{Consumes, IsAtEnd, Keeps};
-ghost use Rattle.px_io.specs.Causes.{Rose, RoseAtMostOnce};
+ghost use Rattle.px_io.specs.Causes.{CountsEnd, Rose, RoseAtMostOnce};
 ghost use Rattle.worker_serve.specs.Sessions.{Takes};
 ghost use Rattle.worker_serve.specs.Streams.{BYTES, IsServed, IsPassed};
 
@@ -37,6 +37,7 @@ fn take_piece<S: Source>(source: &mut S, space: &mut [u8], room: u64) -> Result<
     ensures failed { OnErr result (Rose (S.faults source.old) (S.faults source.new)) }
     ensures later { S.faults source.old ≤ S.faults source.new }
     ensures quiet { OnOk result (S.faults source.new ≡ S.faults source.old) }
+    ensures told { CountsEnd (S.ends_told source.old) (S.ends_told source.new) result }
 {
     let most = (space.len() as u64).min(room) as usize;
     source.take(&mut space[..most])
@@ -85,6 +86,9 @@ fn serve_pieces<R: Threads + Sync, S: Source, K: Sink>(
     ensures sink_later { K.faults sink.old ≤ K.faults sink.new }
     ensures spared { result ≢ ServeEnd.Memory → K.wants sink.new ≡ K.wants sink.old }
     ensures sink_wants { RoseAtMostOnce (K.wants sink.old) (K.wants sink.new) }
+    ensures ended { result ≡ ServeEnd.End → Rose (S.ends_told source.old) (S.ends_told source.new) }
+    ensures not_ended { result ≡ ServeEnd.ReadFault → S.ends_told source.new ≡ S.ends_told source.old }
+    ensures ended_once { RoseAtMostOnce (S.ends_told source.old) (S.ends_told source.new) }
 {
     let mut session = Session::new(alloc);
     let mut out = Vec::new(alloc);
@@ -127,6 +131,9 @@ pub fn serve<R: Threads + Sync, S: Source, K: Sink>(
     ensures sink_later { K.faults sink.old ≤ K.faults sink.new }
     ensures spared { result ≢ ServeEnd.Memory → K.wants sink.new ≡ K.wants sink.old }
     ensures sink_wants { RoseAtMostOnce (K.wants sink.old) (K.wants sink.new) }
+    ensures ended { result ≡ ServeEnd.End → Rose (S.ends_told source.old) (S.ends_told source.new) }
+    ensures not_ended { result ≡ ServeEnd.ReadFault → S.ends_told source.new ≡ S.ends_told source.old }
+    ensures ended_once { RoseAtMostOnce (S.ends_told source.old) (S.ends_told source.new) }
 {
     match zeros(alloc, PIECE) {
         Ok(mut space) => serve_pieces(rt, alloc, source, sink, space.as_mut_slice()),

@@ -15,7 +15,7 @@ use std::marker::Model;
 use std::mem;
 use std::thread::Threads;
 
-/// The place of a byte stops here, and a session takes fewer bytes.
+/// The place of a byte stops here, and so many bytes end a session.
 pub const MOST_BYTES: u64 = 1 << 62;
 
 /// The length of a frame's header in bytes.

@@ -17,6 +17,7 @@ pub loop-count-init : goal.loop-count-init
 loop-count-init g c = record {
   progress = record { text = []; size = refl; short = omega arith; lost = Consumes-nil (g.S.Source.left c.args.source.now); fed = (c.requires.fresh, c.new-scan.ensures); same = refl };
   faults = refl;
+  ends_told = refl;
 }
 
 pub loop-count-preserved : goal.loop-count-preserved
@@ -27,6 +28,7 @@ loop-count-preserved g c =
           (progress_goes_on c.args.lines.now.weighted (g.S.Source.left c.args.source.now) (g.S.Source.left c.loop-count.source) (g.S.Source.left c.take.new.self) c.loop-count.lines c.feed-in-loop-count.new.self c.loop-count.scan c.in_ok-scan.scan c.loop-count.total
           (take c.in-Ok.count c.take.new.space) c.loop-count.invariant.progress c.in-Ok.ensures.moved (omega (arith, size, c.loop-count.invariant.progress.short)) c.feed-in-loop-count.ensures.weighted c.in_ok-scan.ensures.fed);
       faults = c.in-Ok.ensures.quiet ∙ c.loop-count.invariant.faults;
+      ends_told = c.in-Ok.ensures.told.goes_on (λ same. let zero : c.in-Ok.count ≡ 0 = cc same in absurd (search (c.if-count-eq0.false, zero))) ∙ c.loop-count.invariant.ends_told;
     }
 
 pub returns-in_default-clause-read : goal.returns-in_default-clause-read
@@ -44,6 +46,13 @@ returns-then-count-eq0-clause-read g c =
 
 pub returns-then-count-eq0-clause-cause : goal.returns-then-count-eq0-clause-cause
 returns-then-count-eq0-clause-cause g c = λ e.
+    let p = c.loop-count.invariant.progress in
+    let few : length (ended_lines p.text) < 2 ^ 32 = omega (arith, ended_few p.text, p.size, p.short) in
+    let is : line_of c.loop-count.lines.weighted (open_line p.text) ≡ line_said c.judged.result = sym (scanned_is c.loop-count.lines.weighted (open_line p.text)) ∙ ap judged (sym p.fed.1) ∙ sym c.judged.ensures in
+    absurd (line_is_no_read_fault _ c.end_line.new.self c.end_line.result (c.end_line.ensures.adds (ended_lines p.text) (open_line p.text) p.fed.0 is few) e)
+
+pub returns-then-count-eq0-clause-not_ended : goal.returns-then-count-eq0-clause-not_ended
+returns-then-count-eq0-clause-not_ended g c = λ e.
     let p = c.loop-count.invariant.progress in
     let few : length (ended_lines p.text) < 2 ^ 32 = omega (arith, ended_few p.text, p.size, p.short) in
     let is : line_of c.loop-count.lines.weighted (open_line p.text) ≡ line_said c.judged.result = sym (scanned_is c.loop-count.lines.weighted (open_line p.text)) ∙ ap judged (sym p.fed.1) ∙ sym c.judged.ensures in

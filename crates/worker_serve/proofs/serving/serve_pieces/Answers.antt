@@ -12,6 +12,7 @@ loop-room-init g c = record {
   so_far = serving_nothing (g.S.Source.left c.args.source.now) (g.K.Sink.written c.args.sink.now) c.new-session.result c.new-session.ensures;
   room = (let none : length c.new-session.result.bytes ≡ 0 = ap (λ t. length t.bytes) c.new-session.ensures in omega (arith, none));
   source = refl;
+  ends_told = refl;
   sink = refl;
   wants = refl;
 }
@@ -42,6 +43,7 @@ loop-room-preserved g c =
           c.loop-room.session c.pass.new.session (take c.in-Ok.count c.take_piece.new.space) c.loop-room.invariant.so_far c.in-Ok.ensures.moved passed;
       room = omega (arith, c.loop-room.invariant.room, longer, count, c.in-Ok.ensures.fits);
       source = c.in-Ok.ensures.quiet ∙ c.loop-room.invariant.source;
+      ends_told = c.in-Ok.ensures.told.goes_on (λ same. let zero : c.in-Ok.count ≡ 0 = cc same in absurd (search (c.if-count-eq0.false, zero))) ∙ c.loop-room.invariant.ends_told;
       sink = c.in_default.ensures.no_write_fault (λ same. cc) ∙ c.loop-room.invariant.sink;
       wants = c.in_default.ensures.spared (λ same. cc) ∙ c.loop-room.invariant.wants;
     })

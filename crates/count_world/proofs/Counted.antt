@@ -18,11 +18,13 @@ use Rattle.px_base.proofs.Positions.{length_by_position}
 use Rattle.reader_chains.specs.declared.readers.Readers.{Readers}
 use Rattle.count_world.specs.Kept.{KeepsCounts}
 use Rattle.count_world.specs.Readers.{AreReaders, times_listed, times_in_row}
-use Rattle.count_world.specs.Sets.{IsListOf, is_dying, is_told_again, counts_off, without}
+use Rattle.list_laws.specs.Sets.{IsListOf}
+use Rattle.count_world.specs.Sets.{is_dying, is_told_again, counts_off, without}
 use Rattle.count_world.specs.Told.{times_of, told_updates}
-use Rattle.count_world.proofs.Masters.{by_position_same, in_set}
-use Rattle.count_world.proofs.Sums.{row_by_master, listed_is, joined, below_same, sum_none, some_listed}
+use Rattle.count_world.proofs.Masters.{by_position_same}
+use Rattle.list_laws.proofs.Sums.{row_by_master, listed_is, joined, below_same, sum_none, some_listed}
 use Rattle.count_world.proofs.Telling.{told_is}
+use Rattle.list_laws.proofs.Sets.{flag_is}
 
 not_earlier : (a b : ℕ) → b ≤ a → nat_lt a b ≡ false
 not_earlier a b h = grind (arith, nat_tests)
@@ -94,7 +96,7 @@ living_is read dying flags lists =
 
 announced_is : (read : CountWorld) (fresh : Bool) (k : ℕ) → k < length read.alive → is_announced fresh read (after_deaths read) k ≡ (is_told_again fresh read.alive k || dies read k)
 announced_is read fresh k below =
-    ap (λ b. if fresh then not b else dies read k) (in_set (length read.alive) (λ j. is_in read.alive j && not (dies read j)) k below)
+    ap (λ b. if fresh then not b else dies read k) (flag_is (length read.alive) (λ j. is_in read.alive j && not (dies read j)) k below)
     ∙ by_kind fresh (is_in read.alive k) (nat_lt (slice_index read.counts k) read.needed)
   where
     by_kind : (fresh alive low : Bool) → (if fresh then not (alive && not (alive && low)) else alive && low) ≡ (fresh && not alive || (alive && low))

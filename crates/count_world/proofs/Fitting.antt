@@ -15,20 +15,13 @@ use Rattle.px_base.specs.Parts.{PartFits, is_within}
 use Rattle.px_base.specs.FrameFits.{FrameFits, IsVertex, PairsFit}
 use Rattle.px_base.specs.Worlds.{CountWorld, StepOutcome, Refusal, refusal_of, is_fresh}
 use Rattle.px_base.specs.CountSteps.{count_outcome, count_step, times_read, death_announcements, world_as_read, after_deaths, is_announced}
-use Rattle.px_base.proofs.Listed.{rises_from_zero}
 use Rattle.px_base.proofs.Positions.{length_by_position}
+use Rattle.mirror_places.proofs.Tabling.{few}
 use Rattle.count_world.specs.Answers.{FitsWith}
 use Rattle.count_world.specs.Kept.{KeepsCounts}
 use Rattle.count_world.proofs.Telling.{told_update, told_within, few_reads}
 
 -- ---- pairs
-
--- a strictly rising list of vertices isn't longer than there are vertices
-rising_short : (vs : List ℕ) → IsStrictlyIncreasing vs → All IsVertex vs → length vs ≤ 2 ^ 22
-rising_short [] rising each = omega arith
-rising_short (v ∷ vs) rising each =
-    let last : length vs < length (v ∷ vs) = omega arith in
-    omega (arith, rises_from_zero (v ∷ vs) rising (length vs) last, each (length vs) 0 last)
 
 same_vertices : (f : ℕ → ℕ) (vs : List ℕ) → map (λ u. u.vertex) (map (told_update f) vs) ≡ vs
 same_vertices f [] = refl
@@ -41,7 +34,7 @@ pub record ArePairs (us : List Update) : Type 0 where
 
 pub pairs_fit : (f : ℕ → ℕ) (vs : List ℕ) → IsStrictlyIncreasing vs → All IsVertex vs → ((v : ℕ) → IsValue (f v)) → ArePairs (map (told_update f) vs)
 pairs_fit f vs rising each values = record {
-  few = omega (arith, rising_short vs rising each, length-map vs (told_update f));
+  few = omega (arith, few vs rising each, length-map vs (told_update f));
   fit = record {
     rising = rw (same_vertices f vs) rising;
     each = All-map (λ u. IsVertex u.vertex × IsValue u.value) (told_update f) vs (All-weaker IsVertex (λ v. IsVertex v × IsValue (f v)) (λ v h. (h, values v)) vs each);

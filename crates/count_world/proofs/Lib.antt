@@ -5,6 +5,5 @@ pub mod Gathered
 pub mod Lowered
 pub mod Masters
 pub mod Stepped
-pub mod Sums
 pub mod Tallied
 pub mod Telling

@@ -7,8 +7,9 @@ use Rattle.std.proofs.lemmas.List.{get_or-set_same, get_or-set_other}
 use Rattle.px_base.specs.Values.{is_in, is_listed}
 use Rattle.count_world.specs.declared.census.Census.{Census}
 use Rattle.count_world.specs.Census.{IsCensus, KeepsCensus}
-use Rattle.count_world.specs.Sets.{IsListOf, is_dying, falls, without}
-use Rattle.count_world.proofs.Sums.{one_more, room_for_one, none_list, listed_is}
+use Rattle.list_laws.specs.Sets.{IsListOf}
+use Rattle.count_world.specs.Sets.{is_dying, falls, without}
+use Rattle.list_laws.proofs.Sums.{one_more, room_for_one, none_list, listed_is}
 use Rattle.px_base.proofs.Positions.{at_position, length_by_position}
 
 -- whoever falls below the number isn't listed yet

@@ -10,7 +10,8 @@ use Rattle.px_base.proofs.Positions.{at_position}
 use Rattle.count_world.specs.declared.known.Known.{Known}
 use Rattle.count_world.specs.Kept.{IsReady}
 use Rattle.count_world.specs.Noted.{IsNoted, IsStepped, counts_read}
-use Rattle.count_world.specs.Sets.{IsListOf, is_dying, is_updated, counts_off, without}
+use Rattle.list_laws.specs.Sets.{IsListOf}
+use Rattle.count_world.specs.Sets.{is_dying, is_updated, counts_off, without}
 use Rattle.count_world.specs.Tally.{IsClear}
 use Rattle.count_world.specs.Told.{told_updates}
 use Rattle.count_world.proofs.Counted.{nothing_off}

@@ -1,25 +1,22 @@
 -- How often mirrors are told, and the list of those that are told something.
-use Rattle.std.proofs.Common.{◌≡◌, ℕ, zero, suc, ◌+◌, ◌<◌, ◌≤◌, ◌^◌, ◌∙◌, Bool, true, false, List, [], ◌∷◌, ◌++◌, length, get_or, take, set, map, replicate, nat_cmp, refl, sym, ap, arith, length-set, add-zero, inl, inr, Some}
+use Rattle.std.proofs.Common.{◌≡◌, ℕ, zero, suc, ◌+◌, ◌<◌, ◌≤◌, ◌^◌, ◌∙◌, Bool, true, false, List, [], ◌∷◌, ◌++◌, length, get_or, take, set, map, replicate, refl, sym, ap, arith, length-set, add-zero, inl, inr, Some}
 use Rattle.std.specs.Prelude.{◌==◌, ◌&&◌, ◌||◌, nat_lt, filter, slice_index, if◌then◌else◌}
 use Rattle.std.specs.Vec.{vec_capacity}
 use Rattle.std.proofs.lemmas.Bool.Decides.{nat_tests, eqb_tells}
 use Rattle.std.proofs.lemmas.Bool.{cases_lt}
-use Rattle.std.proofs.lemmas.List.{get_or-set_same, get_or-set_other, get_or-replicate, take_all, length-replicate, append-nil, map-append}
+use Rattle.std.proofs.lemmas.List.{get_or-set_same, get_or-set_other, take_all, length-replicate, append-nil, map-append}
 use Rattle.std.proofs.Math.ListN.{get_or-eq_default}
-use Rattle.std.specs.List.Sorted.{IsPermutation, IsStrictlyIncreasing, IsSorted}
-use Rattle.std.proofs.lemmas.List.Sorted.{sum_by-IsPermutation, IsNonDecreasingBy-from_sort}
-use Rattle.std.proofs.lemmas.List.Kept.{IsStrictlyIncreasing-filter}
 use Rattle.px_base.specs.declared.wire.Update.{Update}
 use Rattle.px_base.specs.Values.{positions_below, is_listed, one_if}
 use Rattle.px_base.proofs.Positions.{at_position, length_by_position}
-use Rattle.px_base.proofs.Listed.{rising_apart}
-use Rattle.px_base.proofs.Members.{range_rises}
 use Rattle.count_world.specs.declared.tally.Tally.{Tally}
 use Rattle.count_world.specs.Tally.{IsTally, IsClear, RaisesTally, is_told}
-use Rattle.count_world.specs.Sets.{IsListOf, without}
+use Rattle.list_laws.specs.Sets.{IsListOf}
+use Rattle.count_world.specs.Sets.{without}
 use Rattle.count_world.specs.Told.{is_place, told_updates}
-use Rattle.count_world.proofs.Sums.{one_more, room_for_one, none_list, listed_is, filter_suc, in_order_same}
+use Rattle.list_laws.proofs.Sums.{one_more, room_for_one, none_list, listed_is, filter_suc}
 use Rattle.count_world.proofs.Telling.{told_one, told_none}
+use Rattle.list_laws.proofs.Lists.{at_replicate}
 
 -- one number is raised
 pub raised : (old new : Tally) (i : ℕ) → IsTally old → i < length old.times.items → new.times.items ≡ set old.times.items i (slice_index old.times.items i + 1) →
@@ -83,16 +80,10 @@ wiped times touched lists i = elim (cases_lt i (length times)) [
 pub clear_lists : (times : List ℕ) → ((i : ℕ) → slice_index times i ≡ 0) → IsListOf (length times) (is_told times) []
 clear_lists times none = none_list (length times) (is_told times) (λ i below. ap (λ n. nat_lt 0 n) (none i))
 
-none_at : (n k z : ℕ) → get_or (replicate n z) k z ≡ z
-none_at n k z = elim (cases_lt k n) [
-  | inl low ↦ get_or-replicate n k z z low
-  | inr high ↦ get_or-eq_default (replicate n z) z (omega (arith, high, length-replicate n z))
-]
-
 pub clear_made : (mirrors : List ℕ) (t : Tally) → t.times.items ≡ replicate (length mirrors) 0 → t.touched.items ≡ [] → length mirrors ≤ vec_capacity t.touched → length mirrors ≤ 2 ^ 22 → IsClear t
 clear_made mirrors t times touched room few =
     let size : length t.times.items ≡ length mirrors = ap length times ∙ length-replicate (length mirrors) 0 in
-    let none : (i : ℕ) → slice_index t.times.items i ≡ 0 = λ i. rw times (none_at (length mirrors) i 0) in
+    let none : (i : ℕ) → slice_index t.times.items i ≡ 0 = λ i. rw times (at_replicate (length mirrors) 0 i) in
     record {
       tally = record { few = omega (arith, size, few); room = omega (arith, size, room); lists = rw touched (clear_lists t.times.items none) };
       none = none;
@@ -108,19 +99,6 @@ wiped_clear old new tally times touched room =
     }
 
 -- ---- in rising order
-
-pub reordered : (n : ℕ) (test : ℕ → Bool) (xs ys : List ℕ) → IsPermutation xs ys → IsListOf n test xs → IsListOf n test ys
-reordered n test xs ys same lists f = sum_by-IsPermutation f xs ys same ∙ lists f
-
-pub in_order : (n : ℕ) (test : ℕ → Bool) (ys : List ℕ) → IsListOf n test ys → IsSorted nat_cmp ys → ys ≡ filter test (positions_below n)
-in_order n test ys lists sorted =
-    in_order_same ys (filter test (positions_below n)) (λ i j low inside. IsNonDecreasingBy-from_sort (λ x. x) ys sorted i j 0 low inside) (λ i j low inside. never_falls (filter test (positions_below n)) rising i j low inside) lists
-  where
-    rising : IsStrictlyIncreasing (filter test (positions_below n))
-    rising = IsStrictlyIncreasing-filter test (positions_below n) (range_rises 0 n)
-
-    never_falls : (xs : List ℕ) → IsStrictlyIncreasing xs → (i j : ℕ) → i ≤ j → j < length xs → get_or xs i 0 ≤ get_or xs j 0
-    never_falls xs rises i j before inside = elim (cases_lt i j) [ inl low ↦ omega (arith, rising_apart xs rises i j low inside) | inr same ↦ (let is : i ≡ j = omega arith in rw is (omega arith)) ]
 
 abbrev pub update_at : List ℕ → List ℕ → ℕ → Update
 update_at mirrors times i = record { vertex = get_or mirrors i 0; value = get_or times i 0 }

@@ -4,10 +4,9 @@ use Rattle.std.specs.Prelude.{◌==◌, nat_lt, IfSome, IfNone, filter, sum_by, 
 use Rattle.std.specs.List.Sorted.{IsStrictlyIncreasing}
 use Rattle.std.proofs.lemmas.List.{append-nil}
 use Rattle.std.proofs.lemmas.Bool.Decides.{eqb_tells, nat_tests}
-use Rattle.std.proofs.lemmas.Bool.{cases_lt}
 use Rattle.std.proofs.lemmas.List.Folds.{list_any_at}
-use Rattle.std.proofs.lemmas.List.Sums.{passes_at_first, count_by-le-length, sum_by_more, sum_by_more_le, sum_by-le-sum_by, sum_by-take-le}
-use Rattle.px_base.proofs.Listed.{not_equal, rising_apart}
+use Rattle.std.proofs.lemmas.List.Sums.{passes_at_first, sum_by_more, sum_by_more_le, sum_by-le-sum_by, sum_by-take-le}
+use Rattle.px_base.proofs.Listed.{not_equal}
 use Rattle.px_base.specs.declared.graph.Part.{Part}
 use Rattle.px_base.specs.declared.graph.Read.{Read}
 use Rattle.px_base.specs.declared.wire.Update.{Update}
@@ -15,8 +14,9 @@ use Rattle.px_base.specs.Values.{positions_below, is_listed, place_of, one_if}
 use Rattle.px_base.specs.Graphs.{row_at, reads_passing, read_count}
 use Rattle.px_base.specs.Parts.{PartFits, is_within}
 use Rattle.count_world.specs.Told.{is_place, times_of, reads_of, told_updates}
-use Rattle.count_world.specs.Sets.{IsListOf}
-use Rattle.count_world.proofs.Sums.{sum_suc}
+use Rattle.list_laws.specs.Sets.{IsListOf}
+use Rattle.list_laws.proofs.Sums.{sum_suc, passing_within}
+use Rattle.list_laws.proofs.Ordered.{differ}
 
 -- ---- where a read's source stands among the mirrors
 
@@ -25,13 +25,6 @@ master_is_no_mirror part u i fits inside below = not_equal u (get_or part.mirror
   where
     apart : u ≢ get_or part.mirrors i 0
     apart e = let outside : is_within part.low part.high u ≡ false = rw e (fits.mirrors_outside i 0 below).1 in cc
-
-differ : (xs : List ℕ) → IsStrictlyIncreasing xs → (k place : ℕ) → k < length xs → place < length xs → k ≢ place → get_or xs place 0 ≢ get_or xs k 0
-differ xs rising k place ink inp apart same = elim (cases_lt k place) [
-  | inl low ↦ absurd (omega (arith, rising_apart xs rising k place low inp, same))
-  | inr high ↦
-      elim (cases_lt place k) [ inl low ↦ absurd (omega (arith, rising_apart xs rising place k low ink, same)) | inr above ↦ absurd (apart (omega arith)) ]
-]
 
 place_tells : (xs : List ℕ) (u at i : ℕ) → IsStrictlyIncreasing xs → at ≡ place_of xs u → at < length xs → i < length xs → (at == i) ≡ (u == get_or xs i 0)
 place_tells xs u at i rising is inside below =
@@ -56,9 +49,6 @@ found_tells xs u (Some at) rising some none i below = place_tells xs u at i risi
 
 pub passing_more : (test : ℕ → Bool) (row : List Read) (i : ℕ) (d : Read) → i < length row → reads_passing test (take (i + 1) row) ≡ reads_passing test (take i row) + one_if (test (get_or row i d).source)
 passing_more test row i d below = sum_by_more (λ r. cond (test r.source) 1 0) row i d below
-
-pub passing_within : (test : ℕ → Bool) (row : List Read) → reads_passing test row ≤ length row
-passing_within test row = count_by-le-length (λ r. test r.source) row
 
 -- ---- rows of members
 

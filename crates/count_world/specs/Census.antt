@@ -2,7 +2,8 @@
 use Rattle.std.specs.Prelude.{◌≡◌, ◌≤◌, ◌^◌, All, length}
 use Rattle.std.specs.Vec.{vec_capacity}
 use Rattle.count_world.specs.declared.census.Census.{Census}
-use Rattle.count_world.specs.Sets.{IsListOf, is_dying}
+use Rattle.list_laws.specs.Sets.{IsListOf}
+use Rattle.count_world.specs.Sets.{is_dying}
 
 -- There are a flag of 1 or 0 and a count for each master, and the list has those that are alive with a count below the
 -- number needed. It has room for all masters.

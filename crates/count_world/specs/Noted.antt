@@ -7,7 +7,8 @@ use Rattle.count_world.specs.declared.known.Known.{Known}
 use Rattle.reader_chains.specs.declared.readers.Readers.{Readers}
 use Rattle.count_world.specs.Census.{KeepsCensus}
 use Rattle.count_world.specs.Kept.{HasTables}
-use Rattle.count_world.specs.Sets.{IsListOf, AreSaved, is_dying, is_told_again, counts_off, without}
+use Rattle.list_laws.specs.Sets.{IsListOf}
+use Rattle.count_world.specs.Sets.{AreSaved, is_dying, is_told_again, counts_off, without}
 use Rattle.count_world.specs.Tally.{IsTally}
 use Rattle.count_world.specs.Told.{times_of, told_updates}
 

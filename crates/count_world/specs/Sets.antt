@@ -1,15 +1,10 @@
 -- Lists of masters, and what counts lose to them. Masters are named by k and j, their place in the part.
-use Rattle.std.specs.Prelude.{◌≡◌, ℕ, ◌+◌, ◌-◌, Bool, true, not, ◌&&◌, ◌||◌, ◌==◌, ◌<◌, nat_lt, List, length, filter, sum_by, slice_index, if◌then◌else◌}
+use Rattle.std.specs.Prelude.{◌≡◌, ℕ, ◌+◌, ◌-◌, Bool, true, not, ◌&&◌, ◌||◌, ◌==◌, ◌<◌, nat_lt, List, length, sum_by, slice_index, if◌then◌else◌}
 use Rattle.std.specs.List.{list_any}
 use Rattle.px_base.specs.declared.wire.Update.{Update}
-use Rattle.px_base.specs.Values.{by_position, positions_below, is_in, is_listed}
+use Rattle.px_base.specs.Values.{by_position, is_in, is_listed}
 use Rattle.reader_chains.specs.declared.readers.Readers.{Readers}
 use Rattle.count_world.specs.Readers.{times_listed}
-
--- The list has those of the first n that pass the test, each once, in some order: whatever is summed up over it is what is
--- summed up over them.
-abbrev pub IsListOf : ℕ → (ℕ → Bool) → List ℕ → Type 0
-IsListOf n test members = (f : ℕ → ℕ) → sum_by f members ≡ sum_by f (filter test (positions_below n))
 
 -- alive, with a count below the number needed
 abbrev pub is_dying : List ℕ → List ℕ → ℕ → ℕ → Bool

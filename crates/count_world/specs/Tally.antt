@@ -2,7 +2,7 @@
 use Rattle.std.specs.Prelude.{◌≡◌, ℕ, ◌+◌, ◌<◌, ◌≤◌, ◌^◌, Bool, List, nat_lt, length, slice_index}
 use Rattle.std.specs.Vec.{vec_capacity}
 use Rattle.count_world.specs.declared.tally.Tally.{Tally}
-use Rattle.count_world.specs.Sets.{IsListOf}
+use Rattle.list_laws.specs.Sets.{IsListOf}
 
 -- the mirror at that place is told something
 abbrev pub is_told : List ℕ → ℕ → Bool

@@ -2,7 +2,8 @@
 ghost use Rattle.std.specs.Prelude.{◌≡◌, ◌≤◌, ◌<◌, ◌^◌, ◌++◌, ◌∷◌, [], true, not, All, IfOk, if◌then◌else◌, filter, length, replicate};
 ghost use Rattle.std.specs.Vec.{vec_capacity};
 ghost use Rattle.px_base.specs.Values.{is_in, positions_below};
-ghost use Rattle.count_world.specs.Sets.{IsListOf, is_dying, is_told_again, without};
+ghost use Rattle.list_laws.specs.Sets.{IsListOf};
+ghost use Rattle.count_world.specs.Sets.{is_dying, is_told_again, without};
 
 use px_base::{Memory, Value};
 use std::alloc::Global;

@@ -11,10 +11,10 @@ use Rattle.px_base.specs.Starts.{starts_of}
 use Rattle.px_base.specs.Answers.{IsAnswer}
 use Rattle.px_base.specs.Programs.{bfs}
 use Rattle.px_base.specs.ProgramNames.{sssp}
-use Rattle.path_laws.specs.Walks.{IsSourceWalk, IsWalk, carried}
+use Rattle.walk_terms.specs.Walks.{IsSourceWalk, IsWalk, carried}
 use Rattle.path_laws.specs.Readings.{IsLeastCost}
 use Rattle.path_laws.proofs.Beginning.{own_rows, start_at, starts_are_values}
-use Rattle.path_laws.proofs.CoreWalks.{start_inside, weight_fits}
+use Rattle.walk_terms.proofs.ReadEnds.{start_inside, weight_fits}
 use Rattle.path_laws.proofs.Reached.{short_walk}
 use Rattle.path_laws.proofs.Turned.{attained, none_better}
 

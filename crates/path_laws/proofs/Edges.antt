@@ -12,8 +12,8 @@ use Rattle.px_base.specs.declared.program.Rank.TheVariants.{ById}
 use Rattle.px_base.specs.declared.program.Reads.TheVariants as reads_kind
 use Rattle.px_base.specs.Values.{IsWeight, positions_below}
 use Rattle.px_base.specs.Graphs.{IsGraphOf, RowsFit, is_neighbour, read_of_source, reads_of, row_at, unit_read}
-use Rattle.path_laws.specs.Walks.{HasRead}
-use Rattle.path_laws.proofs.CoreWalks.{reader_inside}
+use Rattle.walk_terms.specs.Walks.{HasRead}
+use Rattle.walk_terms.proofs.ReadEnds.{reader_inside}
 use Rattle.px_base.proofs.Members.{kept, kept_from, mapped, mapped_from, of_member, of_members, position, position_from}
 
 abbrev read_with : ℕ → ℕ → Read

@@ -28,8 +28,9 @@ use Rattle.px_base.specs.Answers.{IsAsGoodAs, IsFixedPoint}
 use Rattle.px_base.proofs.Gathers.{least_below_start}
 use Rattle.value_laws.specs.EdgeLaws.{core_in_range, core_monotone}
 use Rattle.consistent_solver.proofs.Below.{value_anywhere}
-use Rattle.path_laws.specs.Walks.{HasRead, IsWalk, carried}
-use Rattle.path_laws.proofs.CoreWalks.{fold_more, least_below_member, least_has, reader_inside, start_inside, walk_more, weight_fits}
+use Rattle.walk_terms.specs.Walks.{HasRead, IsWalk, carried}
+use Rattle.walk_terms.proofs.ReadEnds.{fold_more, least_below_member, reader_inside, start_inside, walk_more, weight_fits}
+use Rattle.walk_terms.proofs.Carried.{least_has}
 use Rattle.px_base.proofs.Members.{mapped}
 
 -- ---- what a fold that takes the least or the greatest does

@@ -7,10 +7,10 @@ use Rattle.px_base.specs.Graphs.{RowsFit}
 use Rattle.px_base.specs.Starts.{starts_of}
 use Rattle.px_base.specs.Answers.{IsAnswer}
 use Rattle.px_base.specs.ProgramNames.{components}
-use Rattle.path_laws.specs.Walks.{IsWalk, LeadsTo, carried}
+use Rattle.walk_terms.specs.Walks.{IsWalk, LeadsTo, carried}
 use Rattle.path_laws.specs.Readings.{IsLeastId}
 use Rattle.path_laws.proofs.Beginning.{own_rows, start_at, starts_are_values}
-use Rattle.path_laws.proofs.CoreWalks.{start_inside}
+use Rattle.walk_terms.proofs.ReadEnds.{start_inside}
 use Rattle.path_laws.proofs.Turned.{attained, none_better}
 
 components_bring : (y : ℕ) (weights : List ℕ) → carried components y weights ≡ y

@@ -15,9 +15,9 @@ use Rattle.px_base.specs.Answers.{IsAnswer}
 use Rattle.px_base.specs.ProgramNames.{levels}
 use Rattle.path_laws.specs.Paths.{IsRisingChainTo}
 use Rattle.path_laws.specs.Readings.{IsGreatestLength}
-use Rattle.path_laws.specs.Walks.{IsWalk, IsWalkTo, ReadBefore, carried}
+use Rattle.walk_terms.specs.Walks.{IsWalk, IsWalkTo, ReadBefore, carried}
 use Rattle.path_laws.proofs.Beginning.{own_rows, start_at, starts_are_values}
-use Rattle.path_laws.proofs.CoreWalks.{source_inside, start_inside}
+use Rattle.walk_terms.proofs.ReadEnds.{source_inside, start_inside}
 use Rattle.path_laws.proofs.Distances.{bfs_brings}
 use Rattle.path_laws.proofs.Edges.{earlier_fits, earlier_neighbour}
 use Rattle.path_laws.proofs.Fixed.{fixed_attained, fixed_none_better}

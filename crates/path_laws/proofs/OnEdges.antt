@@ -13,7 +13,7 @@ use Rattle.px_base.specs.ProgramNames.{components, sssp, widest}
 use Rattle.px_base.specs.Starts.{starts_of}
 use Rattle.path_laws.specs.Paths.{IsConnected, IsPath, IsSourcePath}
 use Rattle.path_laws.specs.Readings.{IsGreatestWidth, IsLeastCost, IsLeastId}
-use Rattle.path_laws.specs.Walks.{IsSourceWalk, IsWalk, LeadsTo}
+use Rattle.walk_terms.specs.Walks.{IsSourceWalk, IsWalk, LeadsTo}
 use Rattle.path_laws.proofs.Distances.{bfs_is, sssp_is}
 use Rattle.path_laws.proofs.Edges.{given_fits, simple_fits}
 use Rattle.path_laws.proofs.LeastIds.{components_are}

@@ -12,8 +12,9 @@ use Rattle.px_base.specs.ProgramNames.{components}
 use Rattle.px_base.proofs.Positions.{at_position, length_by_position}
 use Rattle.consistent_solver.specs.CoreLists.{IsGreatestCoreConsistent}
 use Rattle.consistent_solver.proofs.Reaching.{greatest_exists}
-use Rattle.path_laws.specs.Walks.{IsSourceWalk}
-use Rattle.path_laws.proofs.CoreWalks.{IsCarried, core_attained, core_carried, core_none_better, start_inside}
+use Rattle.walk_terms.specs.Walks.{IsSourceWalk, IsCarried, core_carried}
+use Rattle.walk_terms.proofs.ReadEnds.{start_inside}
+use Rattle.path_laws.proofs.CoreWalks.{core_attained, core_none_better}
 
 -- ---- marks
 

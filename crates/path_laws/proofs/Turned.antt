@@ -17,8 +17,9 @@ use Rattle.value_laws.specs.EdgeLaws.{core_in_range}
 use Rattle.consistent_solver.specs.CoreLists.{IsGreatestCoreConsistent}
 use Rattle.consistent_solver.proofs.Below.{value_anywhere}
 use Rattle.consistent_solver.proofs.Turning.{at_turned, greatest_turned, no_count, no_mex, turned, turned_values, value_twice}
-use Rattle.path_laws.specs.Walks.{IsWalk, carried}
-use Rattle.path_laws.proofs.CoreWalks.{IsCarried, core_attained, core_carried, core_none_better, start_inside, weight_fits}
+use Rattle.walk_terms.specs.Walks.{IsWalk, carried, IsCarried, core_carried}
+use Rattle.walk_terms.proofs.ReadEnds.{start_inside, weight_fits}
+use Rattle.path_laws.proofs.CoreWalks.{core_attained, core_none_better}
 
 -- ---- what becomes of values along a walk
 

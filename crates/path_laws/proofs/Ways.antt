@@ -14,7 +14,7 @@ use Rattle.px_base.specs.declared.program.Reads.TheVariants as reads_kind
 use Rattle.px_base.specs.Graphs.{IsGraphOf, is_neighbour, joins}
 use Rattle.px_base.proofs.Listed.{not_equal}
 use Rattle.path_laws.specs.Paths.{IsChain, IsConnected, IsPath, IsRisingChain}
-use Rattle.path_laws.specs.Walks.{IsWalk, LeadsTo}
+use Rattle.walk_terms.specs.Walks.{IsWalk, LeadsTo}
 use Rattle.path_laws.proofs.Edges.{IsInside, earlier_neighbour, earlier_read, edge_with, given_edge, given_read, simple_neighbour, simple_read}
 use Rattle.px_base.proofs.Members.{of_member}
 

@@ -11,10 +11,10 @@ use Rattle.px_base.specs.Starts.{starts_of}
 use Rattle.px_base.specs.Answers.{IsAnswer}
 use Rattle.px_base.specs.ProgramNames.{widest}
 use Rattle.px_base.proofs.Gathers.{least_below_start}
-use Rattle.path_laws.specs.Walks.{IsSourceWalk, IsWalk, carried}
+use Rattle.walk_terms.specs.Walks.{IsSourceWalk, IsWalk, carried}
 use Rattle.path_laws.specs.Readings.{IsGreatestWidth, width}
 use Rattle.path_laws.proofs.Beginning.{own_rows, start_at, starts_are_values}
-use Rattle.path_laws.proofs.CoreWalks.{start_inside}
+use Rattle.walk_terms.proofs.ReadEnds.{start_inside}
 use Rattle.path_laws.proofs.Turned.{attained, none_better}
 
 -- the least of a start value and some items, from TOP

@@ -1,4 +1,3 @@
 pub mod ByIds
 pub mod Paths
 pub mod Readings
-pub mod Walks

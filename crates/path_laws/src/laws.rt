@@ -20,7 +20,7 @@ ghost use Rattle.px_base.specs.Values.{IsValue, IsValueList};
 ghost use Rattle.path_laws.specs.ByIds.{AreConnected, IsIdRiseTo, IsIdSourcePath, IsLeastOf, SaysOfEach};
 ghost use Rattle.path_laws.specs.Paths.{IsConnected, IsPath, IsRisingChainTo, IsSourcePath};
 ghost use Rattle.path_laws.specs.Readings.{IsGreatestLength, IsGreatestWidth, IsLeastCost, IsLeastId};
-ghost use Rattle.path_laws.specs.Walks.{IsSourceWalk, IsWalk, IsWalkTo, LeadsTo, ReadBefore, carried};
+ghost use Rattle.walk_terms.specs.Walks.{IsSourceWalk, IsWalk, IsWalkTo, LeadsTo, ReadBefore, carried};
 
 /// The answer of a locally correcting program has at each vertex the best that a start value becomes along a walk to it:
 /// it is at least as good as what any start value becomes along any walk, and some start value becomes it along some walk.

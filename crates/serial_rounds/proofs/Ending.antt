@@ -1,21 +1,18 @@
 -- Rounds come to an end, and then the values are the answer.
-use Rattle.std.proofs.Common.{◌≡◌, ℕ, zero, suc, add-one, ◌+◌, ◌-◌, ◌<◌, ◌≤◌, Bool, true, false, not, List, [], ◌∷◌, ◌++◌, length, map, take, get_or, refl, sym, ap, ◌∙◌, arith, inl, inr, zero-add}
+use Rattle.std.proofs.Common.{◌≡◌, ℕ, zero, suc, add-one, ◌+◌, ◌-◌, ◌<◌, ◌≤◌, Bool, true, false, not, List, [], ◌∷◌, ◌++◌, length, map, take, get_or, refl, sym, ap, ◌∙◌, arith, inl, inr}
 use Rattle.std.specs.Prelude.{◌&&◌, ◌⊎◌, ◌==◌, slice_index, slice_range, sum, All}
 use Rattle.std.specs.List.{flat_map}
 use Rattle.std.proofs.lemmas.Grind.{same_number_lists}
 use Rattle.std.proofs.lemmas.Bool.Decides.{nat_tests}
 use Rattle.std.proofs.lemmas.List.{append-nil, take_all, length-map, get_or-map}
 use Rattle.std.proofs.lemmas.List.Concat.{flat_map-append}
-use Rattle.std.proofs.lemmas.List.Folds.{list_any_at, list_any_none}
-use Rattle.std.proofs.lemmas.List.FromFn.{length-range_with_len, get_or-range_with_len}
 use Rattle.std.proofs.Math.Seq.{take-add, take-suc}
 use Rattle.px_base.specs.declared.graph.Read.{Read}
 use Rattle.px_base.specs.declared.program.CoreProgram.{CoreProgram}
 use Rattle.px_base.specs.declared.wire.Update.{Update}
-use Rattle.px_base.specs.Values.{IsValueList, positions_below}
+use Rattle.px_base.specs.Values.{IsValueList}
 use Rattle.px_base.specs.Parts.{IsCuts, IsOwner, part_count, part_of, low_of, high_of}
 use Rattle.px_base.specs.Worlds.{World, is_fresh, masters_of, epoch_of}
-use Rattle.px_base.specs.ValueSteps.{has_changed, some_changed}
 use Rattle.px_base.proofs.Positions.{length_by_position}
 use Rattle.partitioner.proofs.Owned.{an_owner, low_below_high, high_inside}
 use Rattle.consistent_solver.specs.CoreLists.{IsBelow, IsGreatestCoreConsistent, renewed, renewed_at}
@@ -23,27 +20,12 @@ use Rattle.consistent_solver.proofs.Below.{below_anywhere}
 use Rattle.consistent_solver.proofs.Reaching.{renewed_lower, still_greatest, sums}
 use Rattle.serial_rounds.specs.declared.steps.Sent.{Sent}
 use Rattle.serial_rounds.specs.Mail.{is_still}
-use Rattle.serial_rounds.proofs.Ranges.{at_range, length_range}
-use Rattle.serial_rounds.proofs.Told.{no_change, nothing_announced, unchanged}
+use Rattle.list_laws.proofs.Ranges.{at_range, length_range}
+use Rattle.list_laws.proofs.Told.{nothing_announced, none_changed, no_entry_changed}
 use Rattle.serial_rounds.proofs.Mailed.{share, told_by}
 use Rattle.serial_rounds.proofs.InStep.{IsJob, AreInStep, IsRound, changes, world_at}
 
 -- ---- changes of a share
-
-nothing_changed : (xs : List ℕ) → some_changed xs xs ≡ false
-nothing_changed xs = list_any_none (has_changed xs xs) (positions_below (length xs)) (λ k d below. unchanged (slice_index xs (get_or (positions_below (length xs)) k d)))
-
--- a list of which no entry changed is the same
-no_entry_changed : (before after : List ℕ) → length before ≡ length after → some_changed before after ≡ false → before ≡ after
-no_entry_changed before after sized none = same_number_lists before after sized (λ v below. entry v below (has_changed before after v) refl)
-  where
-    entry : (v : ℕ) → v < length before → (b : Bool) → has_changed before after v ≡ b → slice_index before v ≡ slice_index after v
-    entry v below false kept = no_change (slice_index before v) (slice_index after v) kept
-    entry v below true changed =
-        let inside : v < length after = rw sized at below in
-        let here : get_or (positions_below (length after)) v 0 ≡ v = get_or-range_with_len 0 (length after) v 0 inside ∙ zero-add v in
-        let some : some_changed before after ≡ true = list_any_at (has_changed before after) (positions_below (length after)) v 0 (rw (length-range_with_len 0 (length after)) inside) (rw here changed) in
-        cc
 
 share_sized : (cuts : List ℕ) (i n : ℕ) (x : List ℕ) → IsCuts n cuts → i < part_count cuts → length x ≡ n → length (share cuts i x) ≡ high_of cuts i - low_of cuts i
 share_sized cuts i n x c few sized = length_range x (low_of cuts i) (high_of cuts i) (low_below_high n cuts i c few) (rw sized (high_inside n cuts i c few))
@@ -129,7 +111,7 @@ some_fell a b epoch xs ys false is_a is_b (inr same) early going = absurd (going
 still_part : (rows : List (List Read)) (starts cuts : List ℕ) (i epoch : ℕ) (now next : List ℕ) (s : Sent) → s.changed ≡ changes cuts i now next → s.updates ≡ told_by (is_fresh epoch 1) rows starts cuts i now next →
     share cuts i now ≡ share cuts i next → is_fresh epoch 1 ≡ false → is_still s ≡ true
 still_part rows starts cuts i epoch now next s changed_is updates_is same later =
-    let none : s.changed ≡ false = changed_is ∙ (rw (← same) (nothing_changed (share cuts i now))) in
+    let none : s.changed ≡ false = changed_is ∙ (rw (← same) (none_changed (share cuts i now))) in
     let nothing : s.updates ≡ [] = updates_is ∙ (rw (later, ← same) (nothing_announced (part_of rows starts cuts i) (share cuts i now))) in
     rw (none, nothing) refl
 

@@ -23,10 +23,12 @@ use Rattle.consistent_solver.specs.CoreLists.{IsBelow, IsCoreConsistent, renewed
 use Rattle.consistent_solver.proofs.Below.{value_anywhere, below_starts, below_renewed}
 use Rattle.consistent_solver.proofs.Reaching.{renewed_values}
 use Rattle.serial_rounds.specs.declared.steps.Sent.{Sent}
-use Rattle.serial_rounds.specs.Mail.{AreRoutes, mail_for}
+use Rattle.list_laws.specs.Routes.{AreRoutes}
+use Rattle.list_laws.proofs.Routes.{routes_fit}
+use Rattle.serial_rounds.specs.Mail.{mail_for}
 use Rattle.serial_rounds.specs.Stepped.{Accepts, IsStepped}
 use Rattle.serial_rounds.proofs.Renewals.{masters_renewed}
-use Rattle.serial_rounds.proofs.Mailed.{AllFit, AreTold, IsDue, share, told_by, mail_due, mail_taken, mail_told, routes_fit, sent_news}
+use Rattle.serial_rounds.proofs.Mailed.{AllFit, AreTold, IsDue, share, told_by, mail_due, mail_taken, mail_told, sent_news}
 
 -- What the job of the workers is: a program that keeps the own value and takes the least, and a graph with start values,
 -- cut into parts that fit.

@@ -2,11 +2,8 @@
 use Rattle.std.proofs.Common.{◌≡◌, ℕ, ◌+◌, ◌-◌, ◌<◌, ◌≤◌, Bool, true, false, List, [], length, map, get_or, refl, sym, ap, ◌∙◌, arith, inl, inr, eq-eqb}
 use Rattle.std.specs.Prelude.{◌==◌, ◌&&◌, ◌⊎◌, slice_index, slice_range, All, None}
 use Rattle.std.specs.List.{range_with_len}
-use Rattle.std.specs.List.Sorted.{IsStrictlyIncreasing}
 use Rattle.std.proofs.lemmas.List.Elements.{All-filter, filter_passes}
-use Rattle.std.proofs.lemmas.List.Kept.{IsStrictlyIncreasing-filter}
 use Rattle.std.proofs.lemmas.List.Folds.{list_any_at}
-use Rattle.std.proofs.lemmas.List.FromFn.{length-range_with_len, get_or-range_with_len}
 use Rattle.px_base.specs.declared.graph.Read.{Read}
 use Rattle.px_base.specs.declared.wire.Update.{Update}
 use Rattle.px_base.specs.Values.{is_listed, positions_below}
@@ -15,15 +12,14 @@ use Rattle.px_base.specs.ValueSteps.{announcements, updated_mirrors}
 use Rattle.px_base.specs.Parts.{IsCuts, IsOwner, PartFits, part_count, low_of, high_of, is_mirror, is_routed, mirrors_of, boundary_of, part_of, route_of, routes_of}
 use Rattle.px_base.proofs.Positions.{at_position}
 use Rattle.px_base.proofs.Ranges.{within_bounds}
-use Rattle.px_base.proofs.Members.{range_rises}
 use Rattle.partitioner.proofs.Fitting.{mirror_on_route}
 use Rattle.partitioner.proofs.Found.{position_has}
 use Rattle.partitioner.proofs.Owned.{an_owner, high_inside}
-use Rattle.partitioner.proofs.Routed.{each_position}
 use Rattle.serial_rounds.specs.declared.steps.Sent.{Sent}
-use Rattle.serial_rounds.specs.Mail.{AreRoutes, mail_for, routed_to}
-use Rattle.serial_rounds.proofs.Ranges.{at_range}
-use Rattle.serial_rounds.proofs.Told.{names, all_announced, all_joined, all_kept, any_joined, announced_or_same, listed_filter, mirrors_told, named_kept, none_refused}
+use Rattle.serial_rounds.specs.Mail.{mail_for, routed_to}
+use Rattle.list_laws.proofs.Ranges.{at_range, listed_range}
+use Rattle.list_laws.proofs.Routes.{each_below}
+use Rattle.list_laws.proofs.Told.{names, all_announced, all_joined, all_kept, any_joined, announced_or_same, listed_filter, mirrors_told, named_kept, none_refused}
 
 -- the values of the masters of part i
 abbrev pub share : List ℕ → ℕ → List ℕ → List ℕ
@@ -34,20 +30,6 @@ abbrev pub told_by : Bool → List (List Read) → List ℕ → List ℕ → ℕ
 told_by all rows starts cuts i x z = announcements all (part_of rows starts cuts i) (share cuts i x) (share cuts i z)
 
 -- ---- routes
-
-range_holds : (P : ℕ → Type 0) (a n : ℕ) → ((v : ℕ) → a ≤ v → v < a + n → P v) → All P (range_with_len a n)
-range_holds P a n each k d inside =
-    let few : k < n = omega (arith, length-range_with_len a n) in
-    rw (get_or-range_with_len a n k d few) (each (a + k) (omega arith) (omega arith))
-
--- the routes name the parts
-pub routes_fit : (rows : List (List Read)) (cuts : List ℕ) → AreRoutes (part_count cuts) (routes_of rows cuts)
-routes_fit rows cuts = record {
-  rises = each_position IsStrictlyIncreasing (length rows) (route_of rows cuts) (routes_of rows cuts) refl
-      (λ v inside. IsStrictlyIncreasing-filter (λ j. is_mirror rows cuts j v) (positions_below (part_count cuts)) (range_rises 0 (part_count cuts)));
-  within = each_position (λ route. All (λ j. j < part_count cuts) route) (length rows) (route_of rows cuts) (routes_of rows cuts) refl
-      (λ v inside. All-filter (λ j. is_mirror rows cuts j v) (λ j. j < part_count cuts) (positions_below (part_count cuts)) (range_holds (λ j. j < part_count cuts) 0 (part_count cuts) (λ j low high. omega arith)));
-}
 
 -- part j stands on the route of v exactly where v is a mirror of it
 on_route : (rows : List (List Read)) (cuts : List ℕ) (v j : ℕ) → v < length rows → j < part_count cuts → is_listed (get_or (routes_of rows cuts) v []) j ≡ is_listed (mirrors_of rows cuts j) v
@@ -104,12 +86,6 @@ mail_due all rows starts cuts j x z sent c fits told few =
 
 -- ---- mirrors
 
-listed_range : (a k v : ℕ) → a ≤ v → v < a + k → is_listed (range_with_len a k) v ≡ true
-listed_range a k v low high =
-    let place : v - a < k = omega arith in
-    let back : a + (v - a) ≡ v = omega arith in
-    list_any_at (λ item. item == v) (range_with_len a k) (v - a) 0 (rw (length-range_with_len a k) place) (eq-eqb (get_or (range_with_len a k) (v - a) 0) v (get_or-range_with_len a k (v - a) 0 place ∙ back))
-
 -- a mirror of some part is in the boundary of its owner
 at_boundary : (rows : List (List Read)) (starts cuts : List ℕ) (i j m : ℕ) → IsOwner cuts m i → j < part_count cuts → is_mirror rows cuts j m ≡ true → is_listed (boundary_of rows cuts i) m ≡ true
 at_boundary rows starts cuts i j m owner few reads =
@@ -149,7 +125,7 @@ mail_told all rows starts cuts j x z sent c fits told few =
     (λ k below.
     let m : ℕ = slice_index mirrors k in
     mirror_reached all rows starts cuts j m x z sent c told few
-    (All-filter (is_mirror rows cuts j) (λ v. v < length rows) (positions_below (length rows)) (range_holds (λ v. v < length rows) 0 (length rows) (λ v low high. omega arith)) k 0 below)
+    (All-filter (is_mirror rows cuts j) (λ v. v < length rows) (positions_below (length rows)) (each_below (length rows)) k 0 below)
     (list_any_at (λ item. item == m) mirrors k 0 below (eq-eqb m m refl))
     (filter_passes (is_mirror rows cuts j) (positions_below (length rows)) k 0 below))
 

@@ -14,7 +14,7 @@ use Rattle.px_base.specs.Pulls.{known_value, master_pull}
 use Rattle.px_base.specs.ValueSteps.{renewed_masters, renewed_value}
 use Rattle.px_base.proofs.Positions.{length_by_position, at_position}
 use Rattle.consistent_solver.specs.CoreLists.{gathered_at, renewed, renewed_at}
-use Rattle.serial_rounds.proofs.Ranges.{at_range, length_range, is_range, known_is}
+use Rattle.list_laws.proofs.Ranges.{at_range, length_range, is_range, known_is}
 
 same_edge_values : (core : CoreProgram) (f g : ℕ → ℕ) (row : List Read) → AllByRecursion (λ r. f r.source ≡ g r.source) row →
     map (λ r. core_edge_value core (f r.source) r.weight) row ≡ map (λ r. core_edge_value core (g r.source) r.weight) row

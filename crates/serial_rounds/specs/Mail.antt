@@ -1,15 +1,9 @@
 -- What the workers send each other in a round.
-use Rattle.std.specs.Prelude.{ℕ, ◌<◌, Bool, not, ◌&&◌, ◌==◌, List, [], length, filter, All, slice_index_or}
+use Rattle.std.specs.Prelude.{ℕ, Bool, not, ◌&&◌, ◌==◌, List, [], length, filter, slice_index_or}
 use Rattle.std.specs.List.{flat_map}
-use Rattle.std.specs.List.Sorted.{IsStrictlyIncreasing}
 use Rattle.px_base.specs.declared.wire.Update.{Update}
 use Rattle.px_base.specs.Values.{is_listed}
 use Rattle.serial_rounds.specs.declared.steps.Sent.{Sent}
-
--- The routes of all vertices name workers below this number, each route rising.
-pub record AreRoutes (workers : ℕ) (routes : List (List ℕ)) : Type 0 where
-  pub rises : All IsStrictlyIncreasing routes
-  pub within : All (λ route. All (λ j. j < workers) route) routes
 
 -- those of the updates whose route names worker j
 abbrev pub routed_to : List (List ℕ) → ℕ → List Update → List Update

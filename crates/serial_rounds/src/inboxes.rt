@@ -2,7 +2,8 @@
 ghost use Rattle.std.specs.Prelude.{◌≡◌, ◌<◌, ◌++◌, ◌∷◌, [], ℕ, All, IfOk, OnOk, length, slice_index_or, if◌then◌else◌};
 ghost use Rattle.std.specs.List.Sorted.{IsStrictlyIncreasing};
 ghost use Rattle.px_base.specs.Values.{is_listed};
-ghost use Rattle.serial_rounds.specs.Mail.{AreRoutes, mail_for, routed_to};
+ghost use Rattle.list_laws.specs.Routes.{AreRoutes};
+ghost use Rattle.serial_rounds.specs.Mail.{mail_for, routed_to};
 
 use crate::steps::Sent;
 use px_base::{Items, Memory, Update};

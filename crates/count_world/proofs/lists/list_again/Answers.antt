@@ -1,6 +1,6 @@
 use Rattle.std.proofs.Common.{◌∙◌, length, ap, sym}
 use Rattle.std.specs.Prelude.{sum_by}
-use Rattle.count_world.proofs.Sums.{none_listed}
+use Rattle.list_laws.proofs.Sums.{none_listed}
 use Rattle.count_world.proofs.lists.list_again.Goals as goal
 
 pub returns-else-fresh-clause-lists : goal.returns-else-fresh-clause-lists

@@ -1,7 +1,7 @@
 use Rattle.std.proofs.Common.{◌∙◌, ◌++◌, ◌∷◌, [], length, ap, sym, arith}
 use Rattle.std.specs.Prelude.{if◌then◌else◌}
 use Rattle.count_world.specs.Sets.{is_dying}
-use Rattle.count_world.proofs.Sums.{filter_more, filter_within}
+use Rattle.list_laws.proofs.Sums.{filter_more, filter_within}
 use Rattle.count_world.proofs.lists.list_dying.Goals as goal
 
 pub add_if-requires : goal.add_if-requires

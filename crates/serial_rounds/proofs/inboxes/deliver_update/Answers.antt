@@ -1,6 +1,6 @@
 use Rattle.std.proofs.Common.{ℕ, ◌<◌, ◌++◌, ◌∷◌, [], length, get_or, refl, ap, ◌∙◌, arith}
 use Rattle.std.proofs.lemmas.List.{length-set, get_or_default}
-use Rattle.serial_rounds.proofs.Delivered.{delivered_more}
+use Rattle.list_laws.proofs.Delivered.{delivered_more}
 use Rattle.serial_rounds.proofs.inboxes.deliver_update.Goals as goal
 
 pub loop-j-preserved : goal.loop-j-preserved

@@ -1,7 +1,7 @@
 use Rattle.std.proofs.Common.{◌∙◌, length, ap, refl, arith}
 use Rattle.std.specs.Vec.{vec_capacity}
 use Rattle.count_world.specs.Sets.{is_dying, without}
-use Rattle.count_world.proofs.Sums.{listed_inside}
+use Rattle.list_laws.proofs.Sums.{listed_inside}
 use Rattle.count_world.proofs.Lowered.{buried, without_size}
 use Rattle.count_world.proofs.known.Known.commit.Goals as goal
 

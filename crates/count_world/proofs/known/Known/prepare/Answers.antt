@@ -3,10 +3,11 @@ use Rattle.std.specs.Prelude.{slice_index}
 use Rattle.std.proofs.lemmas.List.{length-map}
 use Rattle.px_base.specs.CountSteps.{counts_less}
 use Rattle.count_world.specs.Noted.{times_both}
-use Rattle.count_world.specs.Sets.{IsListOf, is_told_again, is_dying, counts_off}
+use Rattle.list_laws.specs.Sets.{IsListOf}
+use Rattle.count_world.specs.Sets.{is_told_again, is_dying, counts_off}
 use Rattle.count_world.specs.Told.{times_of}
 use Rattle.count_world.proofs.Lowered.{keeps_on}
-use Rattle.count_world.proofs.Sums.{listed_inside, listed_few}
+use Rattle.list_laws.proofs.Sums.{listed_inside, listed_few}
 use Rattle.count_world.proofs.Telling.{few_reads}
 use Rattle.count_world.proofs.known.Known.prepare.Goals as goal
 

@@ -6,8 +6,9 @@ use Rattle.px_base.specs.Values.{one_if}
 use Rattle.px_base.specs.Graphs.{reads_passing}
 use Rattle.count_world.specs.Told.{is_place}
 use Rattle.count_world.proofs.Tallied.{raises_on}
-use Rattle.count_world.proofs.Telling.{passing_within, passing_more}
+use Rattle.count_world.proofs.Telling.{passing_more}
 use Rattle.count_world.proofs.tally.Tally.add_row.Goals as goal
+use Rattle.list_laws.proofs.Sums.{passing_within}
 
 pub raise_at-requires-clause-room : goal.raise_at-requires-clause-room
 raise_at-requires-clause-room c i d below =

@@ -1,10 +1,11 @@
 use Rattle.std.proofs.Common.{◌≡◌, ◌∙◌, length, map, ap, subst, arith}
 use Rattle.std.specs.Prelude.{IfOk}
-use Rattle.count_world.specs.Sets.{IsListOf}
+use Rattle.list_laws.specs.Sets.{IsListOf}
 use Rattle.count_world.specs.Tally.{is_told}
 use Rattle.count_world.specs.Told.{told_updates}
-use Rattle.count_world.proofs.Sums.{listed_inside}
-use Rattle.count_world.proofs.Tallied.{reordered, in_order, told_by_place, update_at}
+use Rattle.list_laws.proofs.Sums.{listed_inside}
+use Rattle.list_laws.proofs.Ordered.{reordered, in_order}
+use Rattle.count_world.proofs.Tallied.{told_by_place, update_at}
 use Rattle.count_world.proofs.tally.Tally.updates.Goals as goal
 
 pub told_updates-requires-clause-mirrors : goal.told_updates-requires-clause-mirrors

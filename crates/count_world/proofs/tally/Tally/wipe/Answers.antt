@@ -1,7 +1,7 @@
 use Rattle.std.proofs.Common.{◌∙◌, length, ap}
 use Rattle.count_world.specs.Sets.{without}
 use Rattle.count_world.specs.Tally.{is_told}
-use Rattle.count_world.proofs.Sums.{listed_inside}
+use Rattle.list_laws.proofs.Sums.{listed_inside}
 use Rattle.count_world.proofs.Lowered.{without_size}
 use Rattle.count_world.proofs.Tallied.{wiped_clear}
 use Rattle.count_world.proofs.tally.Tally.wipe.Goals as goal

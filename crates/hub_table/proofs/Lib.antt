@@ -1,0 +1,6 @@
+pub mod Fitting
+pub mod Listing
+pub mod Mails
+pub mod Making
+pub mod Ranging
+pub mod Written

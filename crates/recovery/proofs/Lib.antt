@@ -1,0 +1,4 @@
+pub mod Events
+pub mod Reported
+pub mod Sent
+pub mod Turns

@@ -1,0 +1,4 @@
+pub mod Givens
+pub mod TurnFor
+pub mod Reports
+pub mod Keeping

@@ -1,0 +1,2 @@
+pub mod SettledWorlds
+pub mod Settling

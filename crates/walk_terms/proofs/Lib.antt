@@ -1,0 +1,3 @@
+pub mod Carried
+mod Examples
+pub mod ReadEnds

@@ -7,21 +7,23 @@ ghost use Rattle.hub_table.specs.Tables.{AreTables, mails, tables};
 
 use crate::each::{all_empty, clear_all, drain_at, inboxes_for, master_inboxes, send_at};
 use crate::inbox::Inbox;
+use crate::owners::owner_from;
 use crate::vertices::mirror_lists;
-use partitioner::{Cuts, RouteTable, owner};
+use partitioner::{Cuts, RouteTable};
 use px_base::{Memory, Pos, Update, Value};
 use shadow::Shadow;
 use std::alloc::Global;
 use std::marker::Model;
 
 /// The updates that wait for each worker. Where the program counts, an update is a delta for a master of the worker, and the
-/// deltas of a vertex add up; else it is the value of a mirror of the worker, and the last one counts. The routes are kept
-/// for contracts alone. Only `new` takes memory.
+/// deltas of a vertex add up; else it is the value of a mirror of the worker, and the last one counts. The worker that got the
+/// last delta is kept, to find the next one from there. The routes are kept for contracts alone. Only `new` takes memory.
 #[derive(Drop)]
 pub struct Inboxes {
     cuts: Cuts,
     routes: Shadow<RouteTable>,
     counting: bool,
+    last: u32,
     inboxes: Vec<Inbox>,
 }
 
@@ -95,6 +97,7 @@ impl Inboxes {
             cuts,
             routes: Shadow::of(routes),
             counting,
+            last: 0,
             inboxes,
         })
     }
@@ -122,14 +125,16 @@ impl Inboxes {
     }
 
     /// Adds to the sum that the vertex has in the inbox of its owner. The sum stops at the greatest value. From the first
-    /// `add` on, of 0 too, the vertex has an update there. It takes constant time, but for finding the owner.
+    /// `add` on, of 0 too, the vertex has an update there. It takes constant time, but for finding the owner, which is looked
+    /// for from the owner before on: for all vertices of a rising list that is one pass over the cuts.
     pub fn add(&mut self, vertex: Pos, delta: Value)
         requires counts { self.old.counting ≡ true }
         requires below { vertex < vertex_count self.old.cuts }
         requires value { IsValue delta }
         ensures { self.new ≡ with_added self.old vertex delta }
     {
-        let worker = owner(&self.cuts, vertex);
+        let worker = owner_from(&self.cuts, self.last, vertex);
+        self.last = worker;
         send_at(&mut self.inboxes, worker as usize, true, vertex, delta);
     }
 

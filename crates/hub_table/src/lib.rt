@@ -5,6 +5,7 @@ mod each;
 mod inbox;
 mod inboxes;
 mod laws;
+mod owners;
 mod places;
 mod slots;
 mod vertices;

@@ -1,32 +1,34 @@
--- What updates leave of the inboxes: one after another, and one along its route.
-use Rattle.std.proofs.Common.{◌≡◌, ℕ, zero, suc, ◌+◌, ◌<◌, Bool, true, false, not, cond, List, [], ◌∷◌, ◌++◌, Some, None, length, take, get_or, set, arith, refl, sym, ap, ◌∙◌, inl, inr, eq-eqb, length-set, get_or-set_same, get_or-set_other}
-use Rattle.std.specs.Prelude.{◌==◌, ◌&&◌, All, fold, filter, if◌then◌else◌}
+-- What updates leave of the inboxes: one after another, and one along its route, bit by bit.
+use Rattle.std.proofs.Common.{◌≡◌, ℕ, zero, suc, ◌+◌, ◌^◌, ◌<◌, Bool, true, false, not, cond, List, [], ◌∷◌, ◌++◌, Some, None, length, take, get_or, set, arith, refl, sym, ap, ◌∙◌, inl, inr, length-set, get_or-set_same, get_or-set_other}
+use Rattle.std.specs.Prelude.{◌==◌, ◌&&◌, All, filter, if◌then◌else◌}
 use Rattle.std.specs.List.{find}
-use Rattle.std.specs.List.Sorted.{IsStrictlyIncreasing}
+use Rattle.std.specs.Int.{trailing_zeros, w64}
 use Rattle.std.proofs.lemmas.Bool.Decides.{eqb_tells}
 use Rattle.std.proofs.lemmas.List.{take_more}
 use Rattle.std.proofs.lemmas.List.Elements.{filter-append, All-cons, All-nil}
-use Rattle.std.proofs.lemmas.List.Folds.{list_any_at, list_any_none}
 use Rattle.std.proofs.lemmas.List.FromFn.{fill_by_all}
 use Rattle.std.proofs.lemmas.List.Sums.{fold-append}
 use Rattle.px_base.specs.declared.wire.Update.{Update}
 use Rattle.px_base.specs.Parts.{is_master, part_count, low_of, high_of}
 use Rattle.px_base.specs.Values.{by_position, is_listed}
-use Rattle.px_base.proofs.Listed.{not_equal, rising_apart}
 use Rattle.px_base.proofs.Positions.{at_position, length_by_position}
 use Rattle.px_base.proofs.Ranges.{within_bounds}
+use Rattle.partitioner.specs.Bits.{has_bit}
 use Rattle.partitioner.specs.Cuts.{vertex_count}
+use Rattle.partitioner.proofs.LowestBits.{IsRestOf, rest_of_all, rest_of_rest, lowest_has}
 use Rattle.partitioner.proofs.Owned.{high_inside}
-use Rattle.hub_terms.specs.Inboxes.{InboxesState, route_at, inbox_at, is_on_route, is_addressed, box_with, box_with_all, with_added, with_updates}
+use Rattle.hub_terms.specs.Inboxes.{InboxesState, route_at, inbox_at, is_on_route, is_addressed, box_with, box_with_all, with_put, with_added, with_updates}
 use Rattle.hub_terms.specs.HubEvents.{may_send}
 use Rattle.recovery.specs.Keeping.{IsCutGraph, AreInboxesOf}
+use Rattle.recovery.proofs.Worded.{no_bit}
 
 -- ---- lists by position
 
 same_positions : {X : Type 0} (n : ℕ) (f g : ℕ → X) (d : X) → ((k : ℕ) → k < n → f k ≡ g k) → by_position n f ≡ by_position n g
 same_positions n f g d same = fill_by_all g (by_position n f) n d (length_by_position n f) (λ k low. at_position n f k d low ∙ same k low)
 
-with_boxes : InboxesState → List (List Update) → InboxesState
+-- the same with these boxes
+abbrev pub with_boxes : InboxesState → List (List Update) → InboxesState
 with_boxes t boxes = record t { boxes = boxes }
 
 -- ---- updates one after another
@@ -71,59 +73,84 @@ one_added t u counts = ap (λ (boxes : List (List Update)). record t { boxes = b
 
 -- ---- along a route
 
--- the boxes with the update for each worker of this list
-abbrev pub sent_along : Update → List (List Update) → List ℕ → List (List Update)
-sent_along u boxes js = fold (λ so_far j. set so_far j (box_with false u (get_or so_far j []))) boxes js
+-- Of the workers on the route, those whose bit isn't left have the update.
+pub record AreSent (t : InboxesState) (u : Update) (word rest : ℕ) (now : InboxesState) : Type 0 where
+  pub of : IsRestOf word rest
+  pub same : now ≡ with_boxes t now.boxes
+  pub size : length now.boxes ≡ length t.boxes
+  pub sent : (k : ℕ) → k < length t.boxes → inbox_at now k ≡ (if has_bit word k && not (has_bit rest k) then box_with false u (inbox_at t k) else inbox_at t k)
 
-pub along_more : (u : Update) (boxes : List (List Update)) (js : List ℕ) (k : ℕ) → k < length js →
-    set (sent_along u boxes (take k js)) (get_or js k 0) (box_with false u (get_or (sent_along u boxes (take k js)) (get_or js k 0) [])) ≡ sent_along u boxes (take (k + 1) js)
-along_more u boxes js k inside =
-    sym (ap (sent_along u boxes) (take_more js k 0 inside) ∙ fold-append (λ so_far j. set so_far j (box_with false u (get_or so_far j []))) boxes (take k js) (get_or js k 0 ∷ []))
+and_true : (b : Bool) → (b && true) ≡ b
+and_true true = refl
+and_true false = refl
 
-length_along : (u : Update) (boxes : List (List Update)) (js : List ℕ) → length (sent_along u boxes js) ≡ length boxes
-length_along u boxes [] = refl
-length_along u boxes (j ∷ js) = length_along u (set boxes j (box_with false u (get_or boxes j []))) js ∙ length-set boxes j (box_with false u (get_or boxes j []))
+and_false : (b : Bool) → (b && false) ≡ false
+and_false true = refl
+and_false false = refl
 
--- the first of a rising list isn't in the rest
-first_alone : (j : ℕ) (js : List ℕ) → IsStrictlyIncreasing (j ∷ js) → is_listed js j ≡ false
-first_alone j js rises = list_any_none (λ item. item == j) js (λ k d inside.
-    not_equal (get_or js k d) j (λ e. absurd (omega (arith, e, later k d inside))))
+pub none_sent : (t : InboxesState) (u : Update) (word : ℕ) → word < 2 ^ 64 → AreSent t u word word t
+none_sent t u word fits = record {
+  of = rest_of_all word fits;
+  same = refl;
+  size = refl;
+  sent = λ k low. by_bit (has_bit word k) k;
+}
   where
-    default_is : (xs : List ℕ) (k d : ℕ) → k < length xs → get_or xs k d ≡ get_or xs k 0
-    default_is [] k d inside = absurd (omega arith)
-    default_is (x ∷ xs) zero d inside = refl
-    default_is (x ∷ xs) (suc k) d inside = default_is xs k d (omega arith)
+    by_bit : (b : Bool) (k : ℕ) → inbox_at t k ≡ (if b && not b then box_with false u (inbox_at t k) else inbox_at t k)
+    by_bit true k = refl
+    by_bit false k = refl
 
-    later : (k d : ℕ) → k < length js → j < get_or js k d
-    later k d inside = let over : j < get_or js k 0 = rising_apart (j ∷ js) rises 0 (suc k) (omega arith) (omega (arith, inside)) in omega (arith, over, default_is js k d inside)
+-- the worker of the lowest bit that is left is on the route
+pub next_routed : (t now : InboxesState) (u : Update) (word rest : ℕ) → 0 < rest → ((j : ℕ) → has_bit word j ≡ is_on_route t j u.vertex) → AreSent t u word rest now →
+    is_on_route now (trailing_zeros w64 rest) u.vertex ≡ true
+next_routed t now u word rest some route so_far =
+    let low : ℕ = trailing_zeros w64 rest in
+    ap (λ (s : InboxesState). is_on_route s low u.vertex) so_far.same ∙ sym (route low) ∙ so_far.of.inside low (lowest_has rest some so_far.of.fits)
 
-rest_rises : (j : ℕ) (js : List ℕ) → IsStrictlyIncreasing (j ∷ js) → IsStrictlyIncreasing js
-rest_rises j js rises k inside = let one : suc k + 1 ≡ suc (k + 1) = omega arith in rw one at (rises (suc k) (omega (arith, inside)))
+pub next_sent : (t now : InboxesState) (u : Update) (word rest next : ℕ) → 0 < rest → next < 2 ^ 64 → ((k : ℕ) → has_bit next k ≡ (has_bit rest k && not (k == trailing_zeros w64 rest))) →
+    AreSent t u word rest now → AreSent t u word next (with_put now (trailing_zeros w64 rest) u.vertex u.value)
+next_sent t now u word rest next some fits bits so_far =
+    let low : ℕ = trailing_zeros w64 rest in
+    let new : List Update = box_with false u (inbox_at now low) in
+    record {
+      of = rest_of_rest word rest next fits bits so_far.of;
+      same = ap (λ (s : InboxesState). with_boxes s (set now.boxes low new)) so_far.same;
+      size = length-set now.boxes low new ∙ so_far.size;
+      sent = λ k inside. elim (eqb_tells k low) [
+        | inl (e, same) ↦
+            (let had : has_bit rest low ≡ true = lowest_has rest some so_far.of.fits in
+            let has : has_bit word low ≡ true = so_far.of.inside low had in
+            let gone : has_bit next k ≡ false = bits k ∙ ap (λ b. has_bit rest k && not b) e ∙ and_false (has_bit rest k) in
+            let before : inbox_at now k ≡ inbox_at t k =
+            so_far.sent k inside
+            ∙ ap (λ b. if has_bit word k && not b then box_with false u (inbox_at t k) else inbox_at t k) (ap (has_bit rest) same ∙ had)
+            ∙ ap (λ b. if b then box_with false u (inbox_at t k) else inbox_at t k) (and_false (has_bit word k)) in
+            ap (λ m. get_or (set now.boxes m (box_with false u (inbox_at now m))) k []) (sym same)
+            ∙ get_or-set_same now.boxes k (box_with false u (inbox_at now k)) [] (omega (arith, inside, so_far.size))
+            ∙ ap (box_with false u) before
+            ∙ sym (ap (λ b. if has_bit word k && not b then box_with false u (inbox_at t k) else inbox_at t k) gone
+            ∙ ap (λ b. if b && true then box_with false u (inbox_at t k) else inbox_at t k) (ap (has_bit word) same ∙ has)))
+        | inr (e, apart) ↦
+            (let stays : has_bit next k ≡ has_bit rest k = bits k ∙ ap (λ b. has_bit rest k && not b) e ∙ and_true (has_bit rest k) in
+            get_or-set_other now.boxes low k new [] apart
+            ∙ so_far.sent k inside
+            ∙ sym (ap (λ b. if has_bit word k && not b then box_with false u (inbox_at t k) else inbox_at t k) stays))
+      ];
+    }
 
-along_at : (u : Update) (boxes : List (List Update)) (js : List ℕ) (k : ℕ) → IsStrictlyIncreasing js → k < length boxes →
-    get_or (sent_along u boxes js) k [] ≡ (if is_listed js k then box_with false u (get_or boxes k []) else get_or boxes k [])
-along_at u boxes [] k rises inside = refl
-along_at u boxes (j ∷ js) k rises inside = let new : List Update = box_with false u (get_or boxes j []) in
-    along_at u (set boxes j new) js k (rest_rises j js rises) (omega (arith, inside, length-set boxes j new))
-    ∙ elim (eqb_tells j k) [
-      | inl (t, same) ↦ rw (t, sym same, first_alone j js rises) (get_or-set_same boxes j new [] (omega (arith, inside, same)))
-      | inr (t, apart) ↦ rw (t, get_or-set_other boxes j k new [] (λ e. apart (sym e))) refl
-    ]
-
-pub along_all : (t : InboxesState) (u : Update) (route : List ℕ) → t.counting ≡ false → route ≡ route_at t.routes u.vertex → IsStrictlyIncreasing route →
-    record t { boxes = sent_along u t.boxes route } ≡ with_updates t (u ∷ [])
-along_all t u route plain is rises = ap (λ (boxes : List (List Update)). record t { boxes = boxes }) (
-    fill_by_all (box_after t (u ∷ [])) (sent_along u t.boxes route) (length t.boxes) [] (length_along u t.boxes route)
-    (λ k low. along_at u t.boxes route k rises low ∙ by_class t.counting k plain))
+pub all_sent : (t now : InboxesState) (u : Update) (word rest : ℕ) → t.counting ≡ false → ((j : ℕ) → has_bit word j ≡ is_on_route t j u.vertex) → rest ≡ 0 → AreSent t u word rest now →
+    now ≡ with_updates t (u ∷ [])
+all_sent t now u word rest plain route none so_far = so_far.same ∙ ap (with_boxes t) (
+    fill_by_all (box_after t (u ∷ [])) now.boxes (length t.boxes) [] so_far.size
+    (λ k low. so_far.sent k low
+    ∙ ap (λ b. if has_bit word k && not b then box_with false u (inbox_at t k) else inbox_at t k) (ap (λ r. has_bit r k) none ∙ no_bit k)
+    ∙ ap (λ b. if b then box_with false u (inbox_at t k) else inbox_at t k) (and_true (has_bit word k) ∙ route k)
+    ∙ by_class t.counting k plain))
   where
-    by_class : (c : Bool) (k : ℕ) → c ≡ false → (if is_listed route k then box_with false u (inbox_at t k) else inbox_at t k)
+    by_class : (c : Bool) (k : ℕ) → c ≡ false → (if is_on_route t k u.vertex then box_with false u (inbox_at t k) else inbox_at t k)
         ≡ box_with_all c (cond (if c then is_master t.cuts k u.vertex else is_on_route t k u.vertex) (u ∷ []) []) (inbox_at t k)
     by_class true k plain = cc
-    by_class false k plain = rw is (one_box false (is_on_route t k u.vertex) u (inbox_at t k))
-
--- a worker of the route is on it
-pub on_route : (t : InboxesState) (v : ℕ) (route : List ℕ) (k : ℕ) → route ≡ route_at t.routes v → k < length route → is_on_route t (get_or route k 0) v ≡ true
-on_route t v route k is inside = ap (λ r. is_listed r (get_or route k 0)) (sym is) ∙ list_any_at (λ item. item == get_or route k 0) route k 0 inside (eq-eqb (get_or route k 0) (get_or route k 0) refl)
+    by_class false k plain = one_box false (is_on_route t k u.vertex) u (inbox_at t k)
 
 -- ---- who may send
 

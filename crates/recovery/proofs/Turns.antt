@@ -1,10 +1,12 @@
 -- An answer that is taken and an order that is given keep all that the hub keeps, and what the calls below ask for.
-use Rattle.std.proofs.Common.{◌≡◌, ℕ, ◌-◌, ◌<◌, Bool, true, false, List, Option, Some, None, length, set, get_or, eqb-true, arith, refl, sym, ap, subst, ◌∙◌}
+use Rattle.std.proofs.Common.{◌≡◌, ℕ, suc, ◌-◌, ◌^◌, ◌<◌, ◌≤◌, Bool, true, false, List, [], ◌∷◌, map, Option, Some, None, length, set, get_or, eqb-true, arith, refl, sym, ap, subst, ◌∙◌}
 use Rattle.std.specs.Prelude.{◌==◌, All, MatchOption, ⊤, not, find, is_some, if◌then◌else◌}
-use Rattle.std.proofs.lemmas.List.{map-set, get_or-map}
+use Rattle.std.specs.List.Sorted.{IsStrictlyIncreasing}
+use Rattle.std.proofs.lemmas.List.{length-map, map-set, get_or-map}
 use Rattle.px_base.specs.declared.wire.Foreign.{Foreign}
 use Rattle.px_base.specs.declared.wire.Foreign.TheVariants as fault
 use Rattle.px_base.specs.Parts.{part_count, low_of, high_of}
+use Rattle.px_base.proofs.Listed.{rises_from_zero}
 use Rattle.partitioner.specs.Cuts.{vertex_count}
 use Rattle.px_base.specs.declared.wire.Update.{Update}
 use Rattle.px_base.specs.declared.wire.Order.{Order}
@@ -53,6 +55,16 @@ answered hub now same i answer given is inside asked values right =
 same_fault : (t : InboxesState) (i : ℕ) (order : Order) (answer : Answer) → fault_of (bare t.cuts t.routes t.counting) i (order_header order) answer ≡ foreign_of t i order answer
 same_fault t i order (Stepped epoch round changed updates) = refl
 same_fault t i order (Reported epoch values) = refl
+
+-- updates by rising vertex are no more than there are vertices
+few_pairs : (us : List Update) → IsStrictlyIncreasing (map (λ u. u.vertex) us) → All (λ u. u.vertex < 2 ^ 22) us → length us ≤ 2 ^ 22
+few_pairs [] rising below = omega arith
+few_pairs (u ∷ us) rising below =
+    let vs : List ℕ = map (λ w. w.vertex) (u ∷ us) in
+    let size : length vs ≡ suc (length us) = length-map (u ∷ us) (λ w. w.vertex) in
+    let last : length us ≤ get_or vs (length us) 0 = rises_from_zero vs rising (length us) (omega (arith, size)) in
+    let is : get_or vs (length us) 0 ≡ (get_or (u ∷ us) (length us) u).vertex = get_or-map (λ w. w.vertex) (u ∷ us) (length us) u 0 (omega arith) in
+    omega (arith, last, is, below (length us) u (omega arith))
 
 module _ (ends : List ℕ) (to : List (List ℕ)) (counts : Bool) (headers : List (Option Header)) (flags : List Bool) (values : List ℕ) (hub : HubState) (all : IsHub ends to counts headers flags values hub) where
   kept_like : (new : HubState) (hs : List (Option Header)) (fs : List Bool) (vs : List ℕ) → new.inboxes.cuts ≡ hub.inboxes.cuts → new.inboxes.routes ≡ hub.inboxes.routes → new.inboxes.counting ≡ hub.inboxes.counting →
@@ -158,10 +170,9 @@ module _ (ends : List ℕ) (to : List (List ℕ)) (counts : Bool) (headers : Lis
       with_order_in_step : (i : ℕ) (order : Order) → turn_of hub i ≡ work order → i < worker_count hub → (worker_at hub i).live ≡ true → order_at hub i ≡ None → IsHubInStep (with_order hub i order)
       with_order_in_step i order is inside live idle = subst (λ (turn : Turn). IsHubInStep (after_turn hub i turn)) is (gave_in_step hub i all.in_step inside live idle)
 
-  -- the mail of a worker is fit for an order
-  pub mail_given : (i epoch round : ℕ) → i < worker_count hub → IsGiven (Step epoch round (waiting_at hub i))
-  mail_given i epoch round inside = let mail = all.in_step.inboxes i in record {
-    rising = mail.rising;
-    below = λ k d low. omega (arith, addressed_below hub.inboxes i (get_or (waiting_at hub i) k d).vertex graph_is inside (mail.addressed k d low), graph_is.few);
-    values = mail.values;
-  }
+  -- a Step with the mail of a worker has a frame
+  pub mail_given : (i epoch round : ℕ) → i < worker_count hub → epoch < 2 ^ 32 → round < 2 ^ 64 → IsGiven (Step epoch round (waiting_at hub i))
+  mail_given i epoch round inside some few =
+      let mail = all.in_step.inboxes i in
+      let below : All (λ u. u.vertex < 2 ^ 22) (waiting_at hub i) = λ k d low. omega (arith, addressed_below hub.inboxes i (get_or (waiting_at hub i) k d).vertex graph_is inside (mail.addressed k d low), graph_is.few) in
+      (some, few, few_pairs (waiting_at hub i) mail.rising below, record { rising = mail.rising; each = λ k d low. (below k d low, mail.values k d low) })

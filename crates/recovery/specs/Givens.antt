@@ -1,16 +1,15 @@
 -- An order as a worker is given it.
-use Rattle.std.specs.Prelude.{ℕ, ◌<◌, ◌^◌, map, All}
-use Rattle.std.specs.List.Sorted.{IsStrictlyIncreasing}
+use Rattle.std.specs.Prelude.{ℕ}
 use Rattle.px_base.specs.declared.wire.Order.{Order}
-use Rattle.px_base.specs.Worlds.{updates_in, CarriesValues}
+use Rattle.px_base.specs.declared.frame.Frame.TheVariants as frame
+use Rattle.px_base.specs.FrameFits.{FrameFits}
 
 -- an order, and the worker that it is for
 pub record GivenState : Type 0 where
   pub worker : ℕ
   pub order : Order
 
--- the vertices of its updates rise and are below 2^22, and the values are such
-pub record IsGiven (order : Order) : Type 0 where
-  pub rising : IsStrictlyIncreasing (map (λ u. u.vertex) (updates_in order))
-  pub below : All (λ u. u.vertex < 2 ^ 22) (updates_in order)
-  pub values : CarriesValues (updates_in order)
+-- It has a frame: its epoch and its round are within their limits, and its updates are at most 2^22 values, by rising vertex
+-- below 2^22.
+abbrev pub IsGiven : Order → Type 0
+IsGiven order = FrameFits (frame.Order order)

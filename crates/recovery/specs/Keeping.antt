@@ -1,17 +1,19 @@
 -- What the hub keeps beside its state.
-use Rattle.std.specs.Prelude.{◌≡◌, ℕ, ◌+◌, ◌≤◌, ◌^◌, Bool, nat_lt, List, [], length, map, if◌then◌else◌, Option, Some, None, is_some}
+use Rattle.std.specs.Prelude.{◌≡◌, ℕ, ◌+◌, ◌≤◌, ◌^◌, Bool, nat_lt, List, [], length, map, slice_index, if◌then◌else◌, Option, Some, None, is_some}
 use Rattle.px_base.specs.declared.wire.Answer.{Answer}
 use Rattle.px_base.specs.declared.wire.Foreign.{Foreign}
 use Rattle.px_base.specs.declared.wire.Foreign.TheVariants as fault
 use Rattle.px_base.specs.declared.wire.Header.{Header}
 use Rattle.px_base.specs.declared.wire.Order.{Order}
 use Rattle.px_base.specs.Parts.{IsWorkerCuts, part_count}
+use Rattle.px_base.specs.Values.{is_listed}
+use Rattle.partitioner.specs.Bits.{has_bit}
 use Rattle.partitioner.specs.Cuts.{vertex_count}
 use Rattle.list_laws.specs.Routes.{AreRoutes}
 use Rattle.hub_terms.specs.declared.stops.Why.{Why}
 use Rattle.hub_terms.specs.declared.stops.Why.TheVariants as why
 use Rattle.hub_terms.specs.Hubs.{HubState}
-use Rattle.hub_terms.specs.Inboxes.{InboxesState}
+use Rattle.hub_terms.specs.Inboxes.{InboxesState, route_at}
 use Rattle.hub_terms.specs.HubEvents.{order_header, answer_header, same_header, foreign_content}
 use Rattle.hub_terms.specs.HubInStep.{IsHubInStep}
 use Rattle.recovery.specs.Reports.{HoldsReports}
@@ -39,6 +41,11 @@ pub record IsCutGraph (ends : List ℕ) (to : List (List ℕ)) : Type 0 where
   pub few : vertex_count ends ≤ 2 ^ 22
   pub ways : AreRoutes (part_count ends) to
   pub one_each : length to ≡ vertex_count ends
+
+-- There is a word for each vertex: its bit j says whether worker j is on the vertex's route.
+pub record AreRouteWords (to : List (List ℕ)) (words : List ℕ) : Type 0 where
+  pub size : length words ≡ length to
+  pub bits : (v j : ℕ) → has_bit (slice_index words v) j ≡ is_listed (route_at to v) j
 
 -- the inboxes are for these routes, one for each part
 pub record AreInboxesOf (to : List (List ℕ)) (counts : Bool) (t : InboxesState) : Type 0 where

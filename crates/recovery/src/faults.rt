@@ -1,12 +1,11 @@
 //! What is wrong with an answer: its header, then its content.
-ghost use Rattle.std.specs.Prelude.{◌≡◌, ◌<◌, ◌≤◌, ◌+◌, not, length, find, nat_eq, slice_index};
-ghost use Rattle.px_base.specs.Values.{is_listed};
+ghost use Rattle.std.specs.Prelude.{◌≡◌, ◌<◌, ◌≤◌, ◌+◌, not, find, slice_index};
 ghost use Rattle.px_base.specs.Parts.{is_master, part_count};
 ghost use Rattle.recovery.specs.Keeping.{bare, fault_of};
-ghost use Rattle.hub_terms.specs.Inboxes.{route_at};
 ghost use Rattle.hub_terms.specs.HubEvents.{answer_header, foreign_content, may_send, same_header};
 
-use partitioner::{Cuts, RouteTable};
+use crate::route_words::RouteWords;
+use partitioner::Cuts;
 use px_base::{Answer, Foreign, Header, Pos, Update};
 
 /// The kind, the epoch and the round of the answer.
@@ -43,35 +42,16 @@ fn is_master(cuts: &Cuts, i: u32, vertex: Pos) -> bool
     ends[i as usize] <= vertex && vertex < ends[i as usize + 1]
 }
 
-/// Worker `i` mirrors the vertex.
-fn is_on_route(routes: &RouteTable, i: u32, vertex: Pos) -> bool
-    ensures { result ≡ is_listed (route_at routes.now.to vertex) i }
-{
-    match routes.to.as_slice().get(vertex as usize) {
-        Some(route) => route.as_slice().iter().any(|j| *j == i),
-        None => false,
-    }
-}
-
-/// Some worker mirrors the vertex.
-fn is_routed(routes: &RouteTable, vertex: Pos) -> bool
-    ensures { result ≡ not (nat_eq (length (route_at routes.now.to vertex)) 0) }
-{
-    match routes.to.as_slice().get(vertex as usize) {
-        Some(route) => route.as_slice().len() != 0,
-        None => false,
-    }
-}
-
 /// Worker `i` may send an update of the vertex.
-fn may_send(cuts: &Cuts, routes: &RouteTable, counting: bool, i: u32, vertex: Pos) -> bool
-    requires { i < part_count cuts.now.ends }
-    ensures { result ≡ may_send (bare cuts.now.ends routes.now.to counting) i vertex }
+fn may_send(cuts: &Cuts, routes: &RouteWords, counting: bool, i: u32, vertex: Pos) -> bool
+    requires inside { i < part_count cuts.now.ends }
+    requires few { i < 64 }
+    ensures { result ≡ may_send (bare cuts.now.ends routes.now counting) i vertex }
 {
     if counting {
-        is_on_route(routes, i, vertex)
+        routes.is_on_route(i, vertex)
     } else {
-        is_master(cuts, i, vertex) && is_routed(routes, vertex)
+        is_master(cuts, i, vertex) && routes.is_routed(vertex)
     }
 }
 
@@ -79,13 +59,14 @@ fn may_send(cuts: &Cuts, routes: &RouteTable, counting: bool, i: u32, vertex: Po
 #[tactic(auto, using(std::proofs::lemmas::List::drop_more))]
 fn wrong_update(
     cuts: &Cuts,
-    routes: &RouteTable,
+    routes: &RouteWords,
     counting: bool,
     i: u32,
     updates: &[Update],
 ) -> Option<Update>
-    requires { i < part_count cuts.now.ends }
-    ensures { result ≡ find (λ u. not (may_send (bare cuts.now.ends routes.now.to counting) i u.vertex)) updates.now }
+    requires inside { i < part_count cuts.now.ends }
+    requires few { i < 64 }
+    ensures { result ≡ find (λ u. not (may_send (bare cuts.now.ends routes.now counting) i u.vertex)) updates.now }
 {
     for update in updates {
         if !may_send(cuts, routes, counting, i, update.vertex) {
@@ -98,14 +79,15 @@ fn wrong_update(
 /// What is wrong with what the answer brings.
 fn wrong_content(
     cuts: &Cuts,
-    routes: &RouteTable,
+    routes: &RouteWords,
     counting: bool,
     i: u32,
     answer: &Answer,
 ) -> Option<Foreign>
     requires inside { i < part_count cuts.now.ends }
+    requires few { i < 64 }
     requires rises { slice_index cuts.now.ends i ≤ slice_index cuts.now.ends (i + 1) }
-    ensures { result ≡ foreign_content (bare cuts.now.ends routes.now.to counting) i answer.now }
+    ensures { result ≡ foreign_content (bare cuts.now.ends routes.now counting) i answer.now }
 {
     match answer {
         Answer::Stepped { updates, .. } => {
@@ -135,15 +117,16 @@ fn wrong_content(
 /// What is wrong with the answer of worker `i` to an order with this header.
 pub fn fault_of(
     cuts: &Cuts,
-    routes: &RouteTable,
+    routes: &RouteWords,
     counting: bool,
     header: Header,
     i: u32,
     answer: &Answer,
 ) -> Option<Foreign>
     requires inside { i < part_count cuts.now.ends }
+    requires few { i < 64 }
     requires rises { slice_index cuts.now.ends i ≤ slice_index cuts.now.ends (i + 1) }
-    ensures { result ≡ fault_of (bare cuts.now.ends routes.now.to counting) i header answer.now }
+    ensures { result ≡ fault_of (bare cuts.now.ends routes.now counting) i header answer.now }
 {
     let got = answer_header(answer);
     if same_header(&header, &got) {

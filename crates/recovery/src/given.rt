@@ -3,8 +3,8 @@ use hub_terms::Why;
 use px_base::Order;
 use std::marker::Model;
 
-/// An order for a worker, made by `Hub::give` alone. The vertices of its updates rise and are below 2^22, and its values are
-/// values, so that it has a frame.
+/// An order for a worker, made by `Hub::give` alone. It has a frame: its epoch, its round and its updates are within the limits
+/// of one.
 #[derive(Drop)]
 pub struct Given {
     worker: u32,

@@ -6,6 +6,7 @@ use crate::kept::{
     no_headers, no_orders, no_reports, note_current, why_of,
 };
 use crate::mail::put_current;
+use crate::route_words::RouteWords;
 use hub_table::Inboxes;
 use hub_terms::{Halt, Limits, Why};
 use membership::Members;
@@ -21,7 +22,7 @@ use std::marker::Model;
 pub struct Hub {
     alloc: Global,
     cuts: Cuts,
-    routes: RouteTable,
+    routes: RouteWords,
     counting: bool,
     members: Members,
     inboxes: Inboxes,
@@ -41,7 +42,7 @@ impl Model for Hub {
 
     ghost view = { λ h. record { members = h.members; inboxes = h.inboxes; halt = h.halt; orders = h.orders; reported = h.reported } };
 
-    ghost invariant = { λ h. IsHub h.cuts.ends h.routes.to h.counting h.headers.items h.flags.items h.values.items (record { members = h.members; inboxes = h.inboxes; halt = h.halt; orders = h.orders; reported = h.reported }) };
+    ghost invariant = { λ h. IsHub h.cuts.ends h.routes h.counting h.headers.items h.flags.items h.values.items (record { members = h.members; inboxes = h.inboxes; halt = h.halt; orders = h.orders; reported = h.reported }) };
 }
 
 impl Hub {
@@ -82,6 +83,7 @@ impl Hub {
         let vertices = ends[count] as usize;
         let members = Members::new(alloc, count as u32, limits)?;
         let inboxes = Inboxes::new(alloc, &routes, &cuts, counting)?;
+        let routes = RouteWords::new(alloc, &routes)?;
         let headers = no_headers(alloc, count)?;
         let flags = vec![in alloc; false; count]?;
         let values = vec![in alloc; 0; vertices]?;

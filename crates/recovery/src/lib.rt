@@ -7,6 +7,7 @@ mod hub;
 mod kept;
 mod mail;
 mod reports;
+mod route_words;
 
 pub use given::{Given, Turn};
 pub use hub::Hub;

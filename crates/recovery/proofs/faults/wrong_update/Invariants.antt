@@ -5,5 +5,5 @@ use Rattle.recovery.specs.Keeping.{bare}
 use Rattle.recovery.proofs.faults.wrong_update.Given as goal
 
 abbrev pub invariant-loop-update : goal.invariant-loop-update
-invariant-loop-update l = find (λ (u : Update). not (may_send (bare l.fn.cuts.ends l.fn.routes.to l.fn.counting) l.fn.i u.vertex)) l.initial.updates
-    ≡ find (λ (u : Update). not (may_send (bare l.fn.cuts.ends l.fn.routes.to l.fn.counting) l.fn.i u.vertex)) (drop l.update-index l.initial.updates)
+invariant-loop-update l = find (λ (u : Update). not (may_send (bare l.fn.cuts.ends l.fn.routes l.fn.counting) l.fn.i u.vertex)) l.initial.updates
+    ≡ find (λ (u : Update). not (may_send (bare l.fn.cuts.ends l.fn.routes l.fn.counting) l.fn.i u.vertex)) (drop l.update-index l.initial.updates)

@@ -9,8 +9,8 @@ pub loop-update-init : goal.loop-update-init
 loop-update-init c = sym (no_updates c.args.inboxes.now)
 
 pub put_one-requires-clause-inboxes : goal.put_one-requires-clause-inboxes
-put_one-requires-clause-inboxes c = subst (AreInboxesOf c.args.routes.now.to c.args.counting) (sym c.loop-update.invariant)
-    (inboxes_more c.args.routes.now.to c.args.counting c.args.inboxes.now (take c.loop-update.update-index c.args.updates.now) c.requires.inboxes)
+put_one-requires-clause-inboxes c = subst (AreInboxesOf c.args.routes.now c.args.counting) (sym c.loop-update.invariant)
+    (inboxes_more c.args.routes.now c.args.counting c.args.inboxes.now (take c.loop-update.update-index c.args.updates.now) c.requires.inboxes)
 
 pub loop-update-preserved : goal.loop-update-preserved
 loop-update-preserved c =

@@ -1,13 +1,24 @@
-use Rattle.std.proofs.Common.{◌≡◌, ◌∙◌, List, take, length, ap, arith}
-use Rattle.std.proofs.Math.Seq.{take-length}
+use Rattle.std.proofs.Common.{◌^◌, ◌<◌, ◌∙◌, ap, arith}
 use Rattle.hub_terms.specs.Inboxes.{InboxesState}
-use Rattle.recovery.proofs.Sent.{sent_along, along_all}
+use Rattle.recovery.proofs.Sent.{none_sent, next_routed, next_sent, all_sent}
 use Rattle.recovery.proofs.mail.put_along.Goals as goal
 
+pub loop-rest-init : goal.loop-rest-init
+loop-rest-init c = none_sent c.args.inboxes.now c.args.update c.args.word c.ranges.word.fits
+
+pub put-requires-clause-plain : goal.put-requires-clause-plain
+put-requires-clause-plain c = ap (λ (t : InboxesState). t.counting) c.loop-rest.invariant.same ∙ c.requires.plain
+
+pub put-requires-clause-mirrors : goal.put-requires-clause-mirrors
+put-requires-clause-mirrors c =
+    let some : 0 < c.loop-rest.rest = omega arith in
+    next_routed c.args.inboxes.now c.loop-rest.inboxes c.args.update c.args.word c.loop-rest.rest some c.requires.route c.loop-rest.invariant
+
+pub loop-rest-preserved : goal.loop-rest-preserved
+loop-rest-preserved c =
+    let some : 0 < c.loop-rest.rest = omega arith in
+    let fits : c.without_lowest-rest.result < 2 ^ 64 = omega (arith, c.without_lowest-rest.ensures.less, c.loop-rest.invariant.of.fits) in
+    rw c.put.ensures (next_sent c.args.inboxes.now c.loop-rest.inboxes c.args.update c.args.word c.loop-rest.rest c.without_lowest-rest.result some fits c.without_lowest-rest.ensures.bits c.loop-rest.invariant)
+
 pub returns : goal.returns
-returns c =
-    let t : InboxesState = c.args.inboxes.now in
-    let end : c.loop-j.j-index ≡ length c.args.route.now = omega arith in
-    c.loop-j.invariant
-    ∙ ap (λ (js : List _). record t { boxes = sent_along c.args.update t.boxes js }) (ap (λ k. take k c.args.route.now) end ∙ take-length c.args.route.now)
-    ∙ along_all t c.args.update c.args.route.now c.requires.plain c.requires.route c.requires.rises
+returns c = all_sent c.args.inboxes.now c.loop-rest.inboxes c.args.update c.args.word c.loop-rest.rest c.requires.plain c.requires.route (omega arith) c.loop-rest.invariant

@@ -1,7 +1,9 @@
--- The boxes after the workers so far.
-use Rattle.std.proofs.Common.{◌≡◌, take}
-use Rattle.recovery.proofs.Sent.{sent_along}
+-- The workers whose bit isn't left have the update.
+use Rattle.recovery.proofs.Sent.{AreSent}
 use Rattle.recovery.proofs.mail.put_along.Given as goal
 
-abbrev pub invariant-loop-j : goal.invariant-loop-j
-invariant-loop-j l = l.inboxes ≡ record l.initial.inboxes { boxes = sent_along l.update l.initial.inboxes.boxes (take l.j-index l.route) }
+abbrev pub invariant-loop-rest : goal.invariant-loop-rest
+invariant-loop-rest l = AreSent l.initial.inboxes l.update l.word l.rest l.inboxes
+
+abbrev pub decreases-loop-rest : goal.decreases-loop-rest
+decreases-loop-rest l = l.rest

@@ -19,6 +19,6 @@ returns c =
     c.index.ensures ∙ get_or_default c.self.inside.headers.items c.args.i c.index.result.now None (headers_inside _ _ _ _ _ _ hub c.self.invariant c.args.i inside) ∙ header_at _ _ _ _ _ _ hub c.self.invariant c.args.i order mine inside in
     let none : Header = record { kind = 0; epoch = 0; round = 0 } in
     let header : c.unwrap_or-header.result ≡ order_header order = c.unwrap_or-header.ensures ∙ ap (λ o. unwrap_or o none) kept in
-    c.fault_of.ensures ∙ ap (λ (h : Header). fault_of (bare c.self.inside.cuts.ends c.self.inside.routes.to c.self.inside.counting) c.args.i h c.args.answer.now) header
+    c.fault_of.ensures ∙ ap (λ (h : Header). fault_of (bare c.self.inside.cuts.ends c.self.inside.routes c.self.inside.counting) c.args.i h c.args.answer.now) header
     ∙ fault_is _ _ _ _ _ _ hub c.self.invariant c.args.i order c.args.answer.now
     ∙ ap (λ (h : HubState). foreign_of h.inboxes c.args.i order c.args.answer.now) c.self.view_is

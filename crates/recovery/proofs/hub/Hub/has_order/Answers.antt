@@ -1,7 +1,6 @@
-use Rattle.std.proofs.Common.{◌≡◌, ◌∙◌, ◌<◌, Bool, true, false, Option, Some, None, get_or, refl, sym, ap, subst}
+use Rattle.std.proofs.Common.{◌≡◌, ◌∙◌, ◌<◌, Bool, Option, Some, None, get_or, refl, sym, ap, subst}
 use Rattle.std.specs.Prelude.{is_some, MatchBool, MatchOption, ⊤}
 use Rattle.std.proofs.lemmas.List.{get_or_default, get_or-map}
-use Rattle.px_base.specs.declared.wire.Header.{Header}
 use Rattle.px_base.specs.declared.wire.Order.{Order}
 use Rattle.hub_terms.specs.Hubs.{HubState, order_at, worker_count}
 use Rattle.hub_terms.specs.Systems.{HasOrder}

@@ -15,7 +15,8 @@ invariant_of-result c =
     let values : c.in_ok-values.values.items ≡ replicate (vertex_count ends) 0 = search rules in
     let members : c.in_ok-members.members ≡ opening_members (part_count ends) c.args.limits = search rules in
     let inboxes : c.in_ok-inboxes.inboxes ≡ opening_inboxes ends c.args.routes.to c.args.counting = search rules in
+    let routes : c.in_ok-routes.routes ≡ c.args.routes.to = search rules in
     let orders : c.no_orders.result ≡ replicate (part_count ends) None = search rules in
     let reported : c.no_reports.result ≡ replicate (part_count ends) None = search rules in
-    rw (headers, flags, values, members, inboxes, orders, reported)
+    rw (headers, flags, values, members, inboxes, routes, orders, reported)
     (hub_opened ends c.args.routes.to c.args.counting c.args.limits (record { cut = c.requires.cuts; few = c.requires.few; ways = c.requires.routes; one_each = c.requires.one_each }) c.requires.limits)

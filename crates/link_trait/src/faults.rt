@@ -1,6 +1,6 @@
 //! Why a call of a link or a start has no answer.
 
-use px_base::Broken;
+use px_base::{Broken, Memory};
 
 /// Why a link didn't answer.
 #[derive(Clone, Copy, Debug, PartialEq, Eq)]
@@ -20,4 +20,26 @@ pub enum StartFault {
     Refused,
     /// Memory was wanting.
     Memory,
+}
+
+impl From<Memory> for LinkFault {
+    ghost use Rattle.std.specs.Prelude.{◌≡◌};
+    ghost use Rattle.link_trait.specs.declared.faults.LinkFault.TheVariants as fault;
+
+    ghost from_gives = { λ _ e. e ≡ fault.Memory };
+
+    fn from(_e: Memory) -> LinkFault {
+        LinkFault::Memory
+    }
+}
+
+impl From<Memory> for StartFault {
+    ghost use Rattle.std.specs.Prelude.{◌≡◌};
+    ghost use Rattle.link_trait.specs.declared.faults.StartFault.TheVariants as fault;
+
+    ghost from_gives = { λ _ e. e ≡ fault.Memory };
+
+    fn from(_e: Memory) -> StartFault {
+        StartFault::Memory
+    }
 }

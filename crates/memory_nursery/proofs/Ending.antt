@@ -1,5 +1,5 @@
 -- Whether a link is to end now, by what its fields say.
-use Rattle.std.proofs.Common.{◌≡◌, ◌∙◌, ℕ, Bool, false, List, refl, sym}
+use Rattle.std.proofs.Common.{◌≡◌, ◌∙◌, ℕ, Bool, false, List, sym}
 use Rattle.std.specs.List.{list_any}
 use Rattle.px_base.specs.declared.wire.Order.{Order}
 use Rattle.px_io.specs.Causes.{one_more}

@@ -1,17 +1,16 @@
 -- What a nursery in memory keeps when it is made, given scripts, or lends.
-use Rattle.std.proofs.Common.{◌≡◌, ◌∙◌, ℕ, zero, suc, ◌+◌, ◌-◌, ◌<◌, ◌≤◌, Bool, true, false, List, [], ◌∷◌, ◌++◌, length, map, take, drop, get_or, replicate, refl, sym, ap, subst, arith}
+use Rattle.std.proofs.Common.{◌≡◌, ◌∙◌, ℕ, zero, suc, ◌≤◌, Bool, true, false, List, [], ◌∷◌, ◌++◌, length, map, take, drop, replicate, refl, sym, ap, arith}
 use Rattle.std.specs.Prelude.{slice_index}
-use Rattle.std.proofs.lemmas.List.{length-map}
 use Rattle.std.proofs.lemmas.List.Elements.{All-nil}
 use Rattle.std.proofs.lemmas.Simd.{map-map}
 use Rattle.px_base.specs.Values.{positions_below, by_position}
 use Rattle.link_trait.specs.declared.scripts.Scripted.{Scripted}
 use Rattle.link_trait.specs.declared.scripts.Refusal.{Refusal}
 use Rattle.link_trait.specs.Plans.{Plan, LentAs}
-use Rattle.link_trait.specs.Spawners.{Retired, SpawnerView}
-use Rattle.link_trait.specs.Nurseries.{HasCounts, IsLent, new_spawner, with_room}
+use Rattle.link_trait.specs.Spawners.{Retired}
+use Rattle.link_trait.specs.Nurseries.{with_room}
 use Rattle.memory_nursery.specs.States.{SpawnerState, NurseryState, AreLentBy, bare_nursery, new_nursery, new_spawner_state, next_mark, no_counts, no_mark, plan_now, scripted}
-use Rattle.memory_nursery.specs.Keeping.{KeepsNursery, IsOfNursery, IsTallied}
+use Rattle.memory_nursery.specs.Keeping.{KeepsNursery, IsOfNursery}
 use Rattle.memory_nursery.specs.Tallies.{begun_anew, nursery_of}
 use Rattle.memory_nursery.specs.declared.counts.WorkerCounts.{WorkerCounts}
 
@@ -86,7 +85,7 @@ new_view m losses refusals size =
       kind_of_same (λ (c : WorkerCounts). c.ends) m c,
       kind_of_same (λ (c : WorkerCounts). c.starts_since) m c,
       kind_of_same (λ (c : WorkerCounts). c.links_since) m c,
-      size
+      size,
     ) refl
 
 pub new_is : (room : ℕ) (losses : List Scripted) (refusals : List Refusal) (counts : List WorkerCounts) (retired : List Retired) (mark : LentAs) (plan : Plan) →
@@ -104,7 +103,7 @@ anew_view lent count mark counts retired room plan losses refusals size =
       map-map (λ (c : WorkerCounts). c.starts_since) begun_anew counts,
       map-map (λ (c : WorkerCounts). c.links_since) begun_anew counts,
       all_zero counts,
-      size
+      size,
     ) refl
 
 pub anew_is : (lent : Bool) (count : ℕ) (mark : LentAs) (counts now : List WorkerCounts) (retired : List Retired) (room : ℕ) (plan noted : Plan) (losses : List Scripted) (refusals : List Refusal) → length counts ≡ 64 →

@@ -1,16 +1,15 @@
 -- What a nursery in memory shows, once its spawners came back.
-use Rattle.std.proofs.Common.{◌≡◌, ◌∙◌, ℕ, ◌+◌, ◌-◌, ◌≤◌, Bool, true, false, List, ◌++◌, length, map, refl, sym, ap, subst, arith}
+use Rattle.std.proofs.Common.{◌≡◌, ℕ, ◌+◌, ◌-◌, Bool, false, List, ◌++◌, length, map, refl, sym, subst, arith}
 use Rattle.std.specs.Prelude.{All, flat_map}
 use Rattle.std.proofs.lemmas.List.{length-map}
 use Rattle.std.proofs.lemmas.List.Folds.{flat_map-map}
 use Rattle.std.proofs.lemmas.Simd.{map-map}
-use Rattle.link_trait.specs.Counts.{all_more_by}
 use Rattle.link_trait.specs.Plans.{Plan, LentAs}
 use Rattle.link_trait.specs.Spawners.{Retired, SpawnerView}
 use Rattle.link_trait.specs.Nurseries.{AreBack}
 use Rattle.memory_nursery.specs.States.{SpawnerState, NurseryState, taken_back}
 use Rattle.memory_nursery.specs.Keeping.{KeepsSpawner, KeepsNursery}
-use Rattle.memory_nursery.specs.Tallies.{nursery_of, with_spawner, with_spawners}
+use Rattle.memory_nursery.specs.Tallies.{nursery_of, with_spawners}
 use Rattle.memory_nursery.specs.declared.counts.WorkerCounts.{WorkerCounts}
 use Rattle.memory_nursery.proofs.Taking.{one_kind}
 use Rattle.memory_nursery.proofs.Tallying.{return_keeps}
@@ -32,7 +31,7 @@ back_view lent count mark counts old room plan all =
       one_kind (λ (c : WorkerCounts). c.faults) (λ (s : SpawnerState). s.spawner.faults) (λ c s. refl) counts all,
       one_kind (λ (c : WorkerCounts). c.ends) (λ (s : SpawnerState). s.spawner.ends) (λ c s. refl) counts all,
       one_kind (λ (c : WorkerCounts). c.starts_since) (λ (s : SpawnerState). s.spawner.starts) (λ c s. refl) counts all,
-      one_kind (λ (c : WorkerCounts). c.links_since) (λ (s : SpawnerState). s.links) (λ c s. refl) counts all
+      one_kind (λ (c : WorkerCounts). c.links_since) (λ (s : SpawnerState). s.links) (λ c s. refl) counts all,
     ) refl
 
 -- the same, of the lists as they are now

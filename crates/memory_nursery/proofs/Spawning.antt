@@ -1,19 +1,19 @@
 -- What a spawner in memory keeps, from one call to the next.
-use Rattle.std.proofs.Common.{◌≡◌, ℕ, ◌+◌, ◌^◌, ◌<◌, ◌≤◌, true, false, Bool, List, [], ◌∷◌, ◌++◌, length, refl, sym, ap, subst, arith, ◌∙◌, Option, None, Some}
+use Rattle.std.proofs.Common.{◌≡◌, ℕ, ◌+◌, ◌^◌, ◌<◌, ◌≤◌, true, false, Bool, List, [], ◌∷◌, ◌++◌, length, refl, ap, subst, arith, Option, None, Some}
 use Rattle.std.specs.Prelude.{All, ◌==◌, nat_lt, count_by}
 use Rattle.std.proofs.lemmas.Bool.Decides.{nat_tests}
-use Rattle.std.proofs.lemmas.List.Elements.{All-append, All-push, All-weaker}
+use Rattle.std.proofs.lemmas.List.Elements.{All-push}
 use Rattle.px_base.specs.Worlds.{World}
 use Rattle.px_io.specs.Causes.{LAST, one_more}
 use Rattle.link_trait.specs.declared.scripts.Moment.{Moment}
 use Rattle.link_trait.specs.declared.scripts.Scripted.{Scripted}
 use Rattle.link_trait.specs.Counts.{more_by}
-use Rattle.link_trait.specs.Plans.{Plan, LinkMark}
+use Rattle.link_trait.specs.Plans.{LinkMark}
 use Rattle.link_trait.specs.Links.{LinkView}
-use Rattle.link_trait.specs.Spawners.{Retired, IsLinkOf, discarded, kept_of, retired}
+use Rattle.link_trait.specs.Spawners.{Retired, IsLinkOf, discarded, kept_of}
 use Rattle.memory_nursery.specs.Scripts.{IsAhead, losses_of, moments_of, refused_starts}
-use Rattle.memory_nursery.specs.States.{SpawnerState, next_link, next_start, refuses_next, with_link, without_start, IsOnScript}
-use Rattle.memory_nursery.specs.Keeping.{KeepsLink, KeepsSpawner, IsLast, IsOfSpawner, first_at_large, links_before, losses_below, refused_up_to, starts_before, starts_so_far}
+use Rattle.memory_nursery.specs.States.{SpawnerState, next_link, next_start, refuses_next, with_link}
+use Rattle.memory_nursery.specs.Keeping.{KeepsLink, KeepsSpawner, IsLast, IsOfSpawner, first_at_large, links_before, losses_below, starts_so_far}
 use Rattle.memory_nursery.proofs.Counted.{listed_counts, losses_more, moments_counted, refused_grows, refused_more}
 
 -- ---- a start
@@ -35,42 +35,42 @@ module _ (s : SpawnerState) (kept : KeepsSpawner s) (none_out : s.spawner.out �
 
   pub refused_keeps : refuses_next s ≡ true → next_start s < 2 ^ 32 → KeepsSpawner refused_state
   refused_keeps listed early = record {
-      plan = kept.plan;
-      few_links = kept.few_links;
-      few_starts = kept.few_starts;
-      ends = kept.ends;
-      faults = rw next (omega (arith, kept.faults, refused_more (starts_so_far s) starts, subst (λ (n : ℕ). 1 ≤ count_by (λ (start : ℕ). start == n) starts) next (listed_counts (next_start s) starts listed)));
-      numbers = omega (arith, kept.numbers);
-      retired = λ k d low. let h = kept.retired k d low in record { worker = h.worker; number = h.number; script = h.script };
-      out = rw none_out tt;
-    }
+    plan = kept.plan;
+    few_links = kept.few_links;
+    few_starts = kept.few_starts;
+    ends = kept.ends;
+    faults = rw next (omega (arith, kept.faults, refused_more (starts_so_far s) starts, subst (λ (n : ℕ). 1 ≤ count_by (λ (start : ℕ). start == n) starts) next (listed_counts (next_start s) starts listed)));
+    numbers = omega (arith, kept.numbers);
+    retired = λ k d low. let h = kept.retired k d low in record { worker = h.worker; number = h.number; script = h.script };
+    out = rw none_out tt;
+  }
     where
       next : next_start s ≡ starts_so_far s + 1
       next = omega (arith, early)
 
   pub unstarted_keeps : KeepsSpawner unstarted_state
   unstarted_keeps = record {
-      plan = kept.plan;
-      few_links = kept.few_links;
-      few_starts = kept.few_starts;
-      ends = kept.ends;
-      faults = omega (arith, kept.faults, refused_grows (starts_so_far s) (starts_so_far unstarted_state) (refused_starts s.spawner.plan s.spawner.worker) (omega arith));
-      numbers = omega (arith, kept.numbers);
-      retired = λ k d low. let h = kept.retired k d low in record { worker = h.worker; number = h.number; script = h.script };
-      out = rw none_out tt;
-    }
+    plan = kept.plan;
+    few_links = kept.few_links;
+    few_starts = kept.few_starts;
+    ends = kept.ends;
+    faults = omega (arith, kept.faults, refused_grows (starts_so_far s) (starts_so_far unstarted_state) (refused_starts s.spawner.plan s.spawner.worker) (omega arith));
+    numbers = omega (arith, kept.numbers);
+    retired = λ k d low. let h = kept.retired k d low in record { worker = h.worker; number = h.number; script = h.script };
+    out = rw none_out tt;
+  }
 
   pub started_keeps : KeepsSpawner (with_link s)
   started_keeps = record {
-      plan = kept.plan;
-      few_links = kept.few_links;
-      few_starts = kept.few_starts;
-      ends = ends_now;
-      faults = unstarted_keeps.faults;
-      numbers = omega (arith, kept.numbers);
-      retired = λ k d low. let h = kept.retired k d low in record { worker = h.worker; number = λ below. omega (arith, h.number (omega (arith, below)), below); script = h.script };
-      out = (refl, omega (arith, kept.few_links), omega arith);
-    }
+    plan = kept.plan;
+    few_links = kept.few_links;
+    few_starts = kept.few_starts;
+    ends = ends_now;
+    faults = unstarted_keeps.faults;
+    numbers = omega (arith, kept.numbers);
+    retired = λ k d low. let h = kept.retired k d low in record { worker = h.worker; number = λ below. omega (arith, h.number (omega (arith, below)), below); script = h.script };
+    out = (refl, omega (arith, kept.few_links), omega arith);
+  }
 
 -- ---- a link that comes back
 

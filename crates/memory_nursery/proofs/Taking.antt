@@ -1,7 +1,6 @@
 -- Spawners that come back one after another.
 use Rattle.std.proofs.Common.{◌≡◌, ◌∙◌, ℕ, zero, suc, ◌+◌, ◌<◌, ◌≤◌, List, [], ◌∷◌, ◌++◌, length, map, take, drop, get_or, set, refl, sym, ap, subst, arith, append_assoc, append-nil, add-one}
 use Rattle.std.specs.Prelude.{All, flat_map}
-use Rattle.std.proofs.lemmas.List.{length-append, take_more}
 use Rattle.std.proofs.lemmas.List.Elements.{All-push, All-nil}
 use Rattle.link_trait.specs.Counts.{more_by, all_more_by}
 use Rattle.link_trait.specs.Spawners.{Retired}
@@ -106,8 +105,8 @@ module _ (all : List SpawnerState) (before : List WorkerCounts) (old : List Reti
       let low : k < length all = room_left k all next s h in
       let size : length (take k all) ≡ k = length_front k all so_far.within in
       let pushed : with_spawners before (take k all ++ s ∷ []) ≡ set (with_spawners before (take k all)) k (with_spawner (get_or (with_spawners before (take k all)) k d) s) =
-          subst (λ (n : ℕ). with_spawners before (take k all ++ s ∷ []) ≡ set (with_spawners before (take k all)) n (with_spawner (get_or (with_spawners before (take k all)) n d) s)) size
-          (with_push before (take k all) s d (omega (arith, size, low, fits))) in
+      subst (λ (n : ℕ). with_spawners before (take k all ++ s ∷ []) ≡ set (with_spawners before (take k all)) n (with_spawner (get_or (with_spawners before (take k all)) n d) s)) size
+      (with_push before (take k all) s d (omega (arith, size, low, fits))) in
       record {
         within = omega (arith, low);
         left = back_less k all next s h;

@@ -1,5 +1,5 @@
 -- What a nursery in memory keeps, once its spawners came back.
-use Rattle.std.proofs.Common.{◌≡◌, ◌∙◌, ℕ, ◌+◌, ◌-◌, ◌<◌, ◌≤◌, Bool, true, false, List, [], ◌∷◌, ◌++◌, length, map, drop, get_or, refl, sym, ap, subst, arith, Option, None, zero-add}
+use Rattle.std.proofs.Common.{◌≡◌, ◌∙◌, ℕ, ◌+◌, ◌<◌, ◌≤◌, Bool, true, false, List, [], ◌∷◌, length, map, drop, get_or, refl, sym, ap, subst, arith, None, zero-add}
 use Rattle.std.specs.Prelude.{All, flat_map, nat_lt, slice_index}
 use Rattle.std.proofs.lemmas.Bool.Decides.{nat_tests}
 use Rattle.std.proofs.lemmas.List.FromFn.{get_or-range_with_len, length-range_with_len}
@@ -9,9 +9,9 @@ use Rattle.px_base.specs.Values.{positions_below}
 use Rattle.px_io.specs.Causes.{LAST}
 use Rattle.link_trait.specs.declared.scripts.Scripted.{Scripted}
 use Rattle.link_trait.specs.Counts.{more_by, all_more_by}
-use Rattle.link_trait.specs.Plans.{Plan, LentAs, LinkMark}
+use Rattle.link_trait.specs.Plans.{LentAs}
 use Rattle.link_trait.specs.Spawners.{Retired, SpawnerView}
-use Rattle.link_trait.specs.Nurseries.{NurseryView, AreBack, HasCounts}
+use Rattle.link_trait.specs.Nurseries.{NurseryView, AreBack}
 use Rattle.link_trait.proofs.Counting.{length_more, more_at, same_at}
 use Rattle.memory_nursery.specs.Scripts.{losses_of, refused_starts}
 use Rattle.memory_nursery.specs.States.{SpawnerState, NurseryState, next_mark, no_mark, no_plan, taken_back}

@@ -1,5 +1,5 @@
 -- Spawners and nurseries in memory, as contracts see them, and what their calls leave.
-use Rattle.std.specs.Prelude.{◌≡◌, ℕ, ◌+◌, ◌-◌, ◌<◌, ◌≤◌, Bool, true, false, List, [], All, length, map, replicate, drop, slice_index, if◌then◌else◌, Some, None}
+use Rattle.std.specs.Prelude.{◌≡◌, ℕ, ◌+◌, ◌-◌, ◌<◌, ◌≤◌, Bool, true, false, List, [], All, length, map, replicate, drop, slice_index, if◌then◌else◌, Some}
 use Rattle.px_base.specs.declared.graph.Part.{Part}
 use Rattle.px_base.specs.declared.program.CoreProgram.{CoreProgram}
 use Rattle.px_base.specs.Values.{by_position, is_listed}
@@ -9,7 +9,7 @@ use Rattle.link_trait.specs.declared.scripts.Refusal.{Refusal}
 use Rattle.link_trait.specs.Counts.{more_by, all_more_by}
 use Rattle.link_trait.specs.Plans.{Plan, LentAs}
 use Rattle.link_trait.specs.Links.{LinkView}
-use Rattle.link_trait.specs.Spawners.{Retired, SpawnerView, new_peer, not_started, retired, discarded}
+use Rattle.link_trait.specs.Spawners.{Retired, SpawnerView, new_peer, not_started}
 use Rattle.link_trait.specs.Nurseries.{NurseryView, after_return, IsLent, new_spawner}
 use Rattle.memory_nursery.specs.Scripts.{IsAhead, losses_of, moments_of, refused_starts}
 

@@ -10,6 +10,6 @@ mod mem_spawner;
 mod scripts;
 
 pub use link_trait::{Moment, Refusal, Scripted};
-pub use mem_link::{MemLink, RetiredLink};
+pub use mem_link::MemLink;
 pub use mem_nursery::MemNursery;
 pub use mem_spawner::MemSpawner;

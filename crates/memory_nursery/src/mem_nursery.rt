@@ -45,11 +45,7 @@ impl Model for MemNursery {
 }
 
 /// Adds up what came back with a spawner, and moves its list of retired links in.
-fn take_one(
-    counts: &mut WorkerCounts,
-    retired: &mut Vec<Vec<RetiredLink>>,
-    spawner: MemSpawner,
-)
+fn take_one(counts: &mut WorkerCounts, retired: &mut Vec<Vec<RetiredLink>>, spawner: MemSpawner)
     requires room { vec_len retired.old < vec_capacity retired.old }
     ensures counts { counts.new ≡ with_spawner counts.old spawner }
     ensures retired { flat_map (λ list. list.items) retired.new.items ≡ flat_map (λ list. list.items) retired.old.items ++ spawner.spawner.retired }

@@ -59,12 +59,7 @@ fn make_room(retired: &mut Vec<RetiredLink>) -> Result<(), Memory>
 }
 
 /// The new world of the part. Errors: want of memory.
-fn new_world(
-    alloc: Global,
-    part: &Part,
-    core: &CoreProgram,
-    chunks: u32,
-) -> Result<World, Memory>
+fn new_world(alloc: Global, part: &Part, core: &CoreProgram, chunks: u32) -> Result<World, Memory>
     requires { CanStart part.now core.now chunks }
     ensures { IfOk result (λ world. world ≡ new_world part.now core.now) }
 {

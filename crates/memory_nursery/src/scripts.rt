@@ -18,33 +18,29 @@ pub fn next_count(count: u64) -> u64
 }
 
 /// The losses of this worker.
-pub fn losses_of(
-    alloc: Global,
-    losses: &[Scripted],
-    worker: u32,
-) -> Result<Vec<Scripted>, Memory>
+pub fn losses_of(alloc: Global, losses: &[Scripted], worker: u32) -> Result<Vec<Scripted>, Memory>
     ensures { IfOk result (λ own. own.items ≡ filter (λ s. s.worker == worker) losses.now) }
 {
-    Ok(losses
-        .iter()
-        .copied()
-        .filter(|scripted| scripted.worker == worker)
-        .collect(alloc)?)
+    Ok(
+        losses
+            .iter()
+            .copied()
+            .filter(|scripted| scripted.worker == worker)
+            .collect(alloc)?,
+    )
 }
 
 /// The numbers of the starts of this worker that are to be refused.
-pub fn refused_starts(
-    alloc: Global,
-    refusals: &[Refusal],
-    worker: u32,
-) -> Result<Vec<u32>, Memory>
+pub fn refused_starts(alloc: Global, refusals: &[Refusal], worker: u32) -> Result<Vec<u32>, Memory>
     ensures { IfOk result (λ starts. starts.items ≡ map (λ r. r.start) (filter (λ r. r.worker == worker) refusals.now)) }
 {
-    Ok(refusals
-        .iter()
-        .filter(|refusal| refusal.worker == worker)
-        .map(|refusal| refusal.start)
-        .collect(alloc)?)
+    Ok(
+        refusals
+            .iter()
+            .filter(|refusal| refusal.worker == worker)
+            .map(|refusal| refusal.start)
+            .collect(alloc)?,
+    )
 }
 
 /// Whether the loss is of the link with this number.

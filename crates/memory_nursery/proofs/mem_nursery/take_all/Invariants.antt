@@ -1,4 +1,4 @@
-use Rattle.std.proofs.Common.{map, vec_len, vec_capacity}
+use Rattle.std.proofs.Common.{vec_len, vec_capacity}
 use Rattle.std.specs.Prelude.{flat_map}
 use Rattle.std.specs.Vec.Iter.{into_iter_items}
 use Rattle.memory_nursery.proofs.Taking.{AreTaken}

@@ -1,4 +1,4 @@
-use Rattle.std.proofs.Common.{◌≡◌, ◌∙◌, false, sym, ap}
+use Rattle.std.proofs.Common.{◌≡◌, ◌∙◌, false, sym}
 use Rattle.memory_nursery.specs.Scripts.{is_to_end}
 use Rattle.memory_nursery.specs.Views.{link_view}
 use Rattle.memory_nursery.proofs.Ending.{not_to_end}

@@ -1,4 +1,4 @@
-use Rattle.std.proofs.Common.{◌≡◌, ◌∙◌, sym, subst, ap, arith, map, length, List}
+use Rattle.std.proofs.Common.{◌∙◌, sym, subst, ap, arith, map}
 use Rattle.link_trait.specs.Nurseries.{AreBack}
 use Rattle.memory_nursery.specs.States.{NurseryState, SpawnerState, taken_back}
 use Rattle.memory_nursery.specs.Views.{nursery_view}

@@ -1,4 +1,4 @@
-use Rattle.std.proofs.Common.{◌≡◌, ◌<◌, ◌^◌, ◌∙◌, true, ap, sym, subst, arith, None, Option, Some}
+use Rattle.std.proofs.Common.{◌≡◌, ◌<◌, ◌^◌, ◌∙◌, true, ap, sym, subst, arith, None}
 use Rattle.memory_nursery.specs.States.{SpawnerState, next_start, refuses_next}
 use Rattle.memory_nursery.specs.Views.{spawner_view}
 use Rattle.memory_nursery.proofs.Spawning.{refused_keeps, started_keeps, unstarted_keeps}

@@ -1,0 +1,5 @@
+pub mod Counts
+pub mod Plans
+pub mod Links
+pub mod Spawners
+pub mod Nurseries

@@ -1,5 +1,5 @@
 -- Laws of counts that stop at their last value.
-use Rattle.std.proofs.Common.{◌≡◌, ℕ, zero, suc, ◌+◌, ◌<◌, ◌≤◌, List, [], ◌∷◌, length, refl, ap, arith}
+use Rattle.std.proofs.Common.{◌≡◌, ℕ, zero, suc, ◌+◌, ◌<◌, ◌≤◌, List, [], ◌∷◌, ◌++◌, length, set, refl, ap, arith}
 use Rattle.std.specs.Prelude.{All, sum, slice_index}
 use Rattle.std.proofs.lemmas.List.Elements.{All-head, All-tail}
 use Rattle.std.proofs.lemmas.List.Sums.{sum_by-cons}
@@ -65,3 +65,11 @@ sum_exact (x ∷ xs) (y ∷ ys) fits below =
     let rest = sum_exact xs ys (omega (arith, fits)) (All-tail (λ (n : ℕ). n < LAST) (more_by x y) (all_more_by xs ys) below) in
     let head : more_by x y < LAST = All-head (λ (n : ℕ). n < LAST) (more_by x y) (all_more_by xs ys) below in
     omega (arith, a, b, c, rest, head)
+
+-- ---- one worker after another
+
+-- with one spawner more
+pub more_push : (xs ys : List ℕ) (y : ℕ) → length ys < length xs → all_more_by xs (ys ++ y ∷ []) ≡ set (all_more_by xs ys) (length ys) (more_by (slice_index (all_more_by xs ys) (length ys)) y)
+more_push [] ys y below = absurd (omega (arith, below))
+more_push (x ∷ xs) [] y below = refl
+more_push (x ∷ xs) (z ∷ ys) y below = ap (λ (rest : List ℕ). more_by x z ∷ rest) (more_push xs ys y (omega (arith, below)))

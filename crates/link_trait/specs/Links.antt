@@ -1,9 +1,10 @@
 -- A link as contracts see it, and what a call of it leaves.
-use Rattle.std.specs.Prelude.{◌≡◌, ℕ, ◌≤◌, ◌^◌, Bool, true, false, All, Option, Some, is_some, IsOk, ⊤, MatchOption}
+use Rattle.std.specs.Prelude.{◌≡◌, ℕ, ◌≤◌, ◌^◌, Bool, true, false, All, Option, Some, is_some, Result, Ok, Err, IsOk, ⊤, MatchOption}
 use Rattle.std.specs.List.Sorted.{IsSortedBy}
 use Rattle.px_base.specs.declared.graph.Part.{Part}
 use Rattle.px_base.specs.declared.program.CoreProgram.{CoreProgram}
 use Rattle.px_base.specs.declared.wire.Answer.{Answer}
+use Rattle.px_base.specs.declared.wire.Broken.{Broken}
 use Rattle.px_base.specs.declared.wire.Order.{Order}
 use Rattle.px_base.specs.declared.wire.Order.TheVariants.{Step, Report}
 use Rattle.px_base.specs.Classes.{class_of}
@@ -16,9 +17,11 @@ use Rattle.px_io.specs.Causes.{one_more}
 use Rattle.hub_terms.specs.InStep.{IsAccepted}
 use Rattle.hub_terms.specs.Systems.{AnswersValues, step_of, world_left}
 use Rattle.link_trait.specs.Plans.{LinkMark}
+use Rattle.link_trait.specs.declared.faults.LinkFault.{LinkFault}
+use Rattle.link_trait.specs.declared.faults.LinkFault.TheVariants as fault
 
 -- A link: its worker and its mark; the world of its peer, where it is told; how many calls it has answered, and how many of
--- these were Reports; whether it is alive; and its ends.
+-- these were Reports, where the peer is told; whether it is alive; its ends; and the fault of the frame that it has refused.
 pub record LinkView : Type 0 where
   pub worker : ℕ
   pub mark : LinkMark
@@ -27,6 +30,7 @@ pub record LinkView : Type 0 where
   pub reports : ℕ
   pub alive : Bool
   pub ends : ℕ
+  pub refused : Option Broken
 
 -- the link tells its peer
 abbrev pub is_told : LinkView → Bool
@@ -64,6 +68,13 @@ pub record IsDead (old new : LinkView) : Type 0 where
   pub dead : new.alive ≡ false
   pub calls : new.calls ≡ old.calls
   pub reports : new.reports ≡ old.reports
+
+-- the fault of the frame that the link has refused, after a call that was answered so
+abbrev pub refused_after : Option Broken → Result Answer LinkFault → Option Broken
+refused_after refused (Ok answer) = refused
+refused_after refused (Err fault.Ended) = refused
+refused_after refused (Err (fault.Broke broken)) = Some broken
+refused_after refused (Err fault.Memory) = refused
 
 -- What no call changes: whose link it is, and whether it tells. Its ends never fall.
 pub record IsSameLink (old new : LinkView) : Type 0 where

@@ -1,4 +1,4 @@
--- What may be wanted of a nursery beforehand, and the marks of what it lends. Contracts alone see them.
+-- What is scripted for a nursery, and the marks of what it lends. Contracts alone see them.
 use Rattle.std.specs.Prelude.{ℕ, List}
 use Rattle.link_trait.specs.declared.scripts.Scripted.{Scripted}
 use Rattle.link_trait.specs.declared.scripts.Refusal.{Refusal}

@@ -38,7 +38,7 @@ pub record IsLinkOf (spawner : SpawnerView) (link : LinkView) : Type 0 where
 abbrev pub new_peer : Bool → Part → CoreProgram → Option World
 new_peer told part core = if told then Some (new_world part core) else None
 
--- A link was started: it is the one of this spawner that is out, it is alive, and has answered nothing yet. Where it tells
+-- A link was started (its count of ends may be above 0 from what it is made of): it is the one of this spawner that is out, it is alive, and has answered and refused nothing yet. Where it tells
 -- its peer, that is the new world of the part.
 pub record IsStarted (old new : SpawnerView) (part : Part) (core : CoreProgram) (link : LinkView) : Type 0 where
   pub spawner : new ≡ record old { starts = old.starts + 1; faults = new.faults; out = Some link.mark }
@@ -47,6 +47,7 @@ pub record IsStarted (old new : SpawnerView) (part : Part) (core : CoreProgram) 
   pub peer : link.peer ≡ new_peer old.tells part core
   pub calls : link.calls ≡ 0
   pub reports : link.reports ≡ 0
+  pub refused : link.refused ≡ None
 
 -- after a start that gave no link, with this count of faults
 abbrev pub not_started : SpawnerView → ℕ → SpawnerView

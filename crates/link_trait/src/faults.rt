@@ -9,7 +9,7 @@ pub enum LinkFault {
     Ended,
     /// What came isn't an answer. It carries the fault of the frame that was refused.
     Broke(Broken),
-    /// Memory was wanting.
+    /// There wasn't enough memory.
     Memory,
 }
 
@@ -18,7 +18,7 @@ pub enum LinkFault {
 pub enum StartFault {
     /// The worker couldn't be started, or couldn't be given its part.
     Refused,
-    /// Memory was wanting.
+    /// There wasn't enough memory.
     Memory,
 }
 

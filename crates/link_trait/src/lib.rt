@@ -3,14 +3,12 @@
 #![tactic(auto)]
 
 mod faults;
-mod laws;
 mod link;
 mod nursery;
 mod scripts;
 mod spawner;
 
 pub use faults::{LinkFault, StartFault};
-pub use laws::order_has_frame;
 pub use link::Link;
 pub use nursery::Nursery;
 pub use scripts::{Moment, Refusal, Scripted};

@@ -3,7 +3,7 @@ ghost use Rattle.std.specs.Prelude.{◌≡◌, IfOk, OnErr, true, false};
 ghost use denote.Param.Send.{IsSync};
 ghost use Rattle.px_base.specs.declared.wire.Broken.{Broken};
 ghost use Rattle.link_trait.specs.Counts.{HasRisen};
-ghost use Rattle.link_trait.specs.Links.{LinkView, Accepts, IsAnswered, IsDead, IsSameLink, is_told};
+ghost use Rattle.link_trait.specs.Links.{LinkView, Accepts, IsAnswered, IsDead, IsSameLink, is_told, refused_after};
 
 use crate::faults::LinkFault;
 use px_base::Answer;
@@ -14,15 +14,17 @@ use std::thread::Threads;
 /// A way to one worker, which holds the worker's world and answers its orders. Where a link tells its peer, contracts see
 /// that world. Any call may raise the count of ends.
 pub trait Link: Send + Drop {
-    /// The worker, the mark, the world of the peer where it is told, the calls that were answered, whether the link is alive,
-    /// and its ends.
+    /// The worker; the mark; the world of the peer, where it is told; the calls and the Reports that were answered; whether the
+    /// link is alive; its ends; and the fault of the frame that it has refused, where it has.
     ghost shown: { Self → LinkView };
 
     /// The number of the worker.
     fn worker(&self) -> u32
         ensures { result ≡ (shown self.now).worker };
 
-    /// Hands the order to the peer, and its answer back. It may wait.
+    /// Hands the order to the peer, and its answer back. The link is alive after an answer, and may be called again. It may
+    /// wait. (`sync` says again what the bound on `R` says, for implementations, which don't see the bound. A caller meets it
+    /// by itself.)
     ///
     /// # Errors
     /// `Ended`, only where the count of ends rose; `Broke`, with the fault of the frame that was refused, and never where the
@@ -35,6 +37,7 @@ pub trait Link: Send + Drop {
         ensures ok { IfOk result (λ answer. IsAnswered (shown self.old) (shown self.new) given.order answer) }
         ensures ended { result ≡ Err LinkFault.Ended → HasRisen (shown self.old).ends (shown self.new).ends }
         ensures broke { (fault : Broken) → result ≡ Err (LinkFault.Broke fault) → is_told (shown self.old) ≡ false }
+        ensures refused { (shown self.new).refused ≡ refused_after (shown self.old).refused result }
         ensures dead { OnErr result (IsDead (shown self.old) (shown self.new)) }
         ensures same { IsSameLink (shown self.old) (shown self.new) };
 }

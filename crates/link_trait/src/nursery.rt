@@ -11,8 +11,8 @@ pub trait Nursery {
     type S: Spawner;
 
     /// Whether its spawners are lent; how many the last lending gave, and its mark; per worker the starts, the faults and the
-    /// ends that came back; the retired links; for how many lists of these there is room; whether its links tell their
-    /// peers; and the plan.
+    /// ends that came back; the retired links; for how many spawners' lists of these there is room; whether its links
+    /// tell their peers; and the plan.
     ghost shown: { Self → NurseryView };
 
     /// Lends so many spawners, one for each worker from 0 on.

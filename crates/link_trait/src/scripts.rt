@@ -1,4 +1,5 @@
-//! What a test may want beforehand of a nursery in memory: losses and refused starts.
+//! Losses and refused starts that are scripted for a nursery in memory. The numbers of links and starts go on from one lending to
+//! the next, and begin anew when scripts are put.
 
 /// When a link ends.
 #[derive(Clone, Copy, Debug, PartialEq, Eq)]

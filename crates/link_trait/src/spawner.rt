@@ -11,8 +11,9 @@ use px_base::{CoreProgram, Part};
 use std::sync::Wait;
 use std::thread::Threads;
 
-/// Starts the links of one worker, one after another, and takes them back. A start may raise the count of faults, whatever it
-/// answers.
+/// Starts the links of one worker, one after another, and takes them back. Each link that it has started comes back by `retire`
+/// or `discard`, a dead one too: while one is out, none is started, and the nursery can't take the spawner back. A start may
+/// raise the count of faults, whatever it answers.
 pub trait Spawner: Send + Drop {
     /// What it starts.
     type L: Link;
@@ -42,12 +43,12 @@ pub trait Spawner: Send + Drop {
         ensures err { OnErr result (shown self.new ≡ not_started (shown self.old) (shown self.new).faults) }
         ensures faults { (shown self.old).faults ≤ (shown self.new).faults };
 
-    /// Takes the link back, and keeps its peer for contracts.
+    /// Takes the link back, and keeps its peer for contracts. It may wait, for a process to end, say.
     fn retire(&mut self, link: Self::L)
         requires { IsLinkOf (shown self.old) (Self.L.shown link) }
         ensures { shown self.new ≡ retired (shown self.old) (Self.L.shown link) };
 
-    /// Takes the link back, and forgets its peer.
+    /// Takes the link back, and forgets its peer. It may wait.
     fn discard(&mut self, link: Self::L)
         requires { IsLinkOf (shown self.old) (Self.L.shown link) }
         ensures { shown self.new ≡ discarded (shown self.old) (Self.L.shown link) };

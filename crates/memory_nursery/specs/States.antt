@@ -1,5 +1,5 @@
 -- Spawners and nurseries in memory, as contracts see them, and what their calls leave.
-use Rattle.std.specs.Prelude.{◌≡◌, ℕ, ◌+◌, ◌-◌, ◌<◌, ◌≤◌, Bool, true, false, List, [], All, length, map, replicate, drop, slice_index, if◌then◌else◌, Some}
+use Rattle.std.specs.Prelude.{◌≡◌, ℕ, ◌+◌, ◌-◌, ◌<◌, ◌≤◌, Bool, true, false, List, [], All, length, map, replicate, drop, slice_index, if◌then◌else◌, Some, None}
 use Rattle.px_base.specs.declared.graph.Part.{Part}
 use Rattle.px_base.specs.declared.program.CoreProgram.{CoreProgram}
 use Rattle.px_base.specs.Values.{by_position, is_listed}
@@ -42,6 +42,7 @@ new_link s part core = record {
   reports = 0;
   alive = true;
   ends = 0;
+  refused = None;
 }
 
 -- after that link was started

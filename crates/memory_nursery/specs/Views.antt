@@ -1,5 +1,5 @@
 -- What the fields of links, spawners and nurseries in memory mean.
-use Rattle.std.specs.Prelude.{◌≡◌, ◌-◌, ◌<◌, true, flat_map, slice_index, Some, vec_len, vec_capacity, option_map, IsSome}
+use Rattle.std.specs.Prelude.{◌≡◌, ◌-◌, ◌<◌, true, flat_map, slice_index, Some, None, vec_len, vec_capacity, option_map, IsSome}
 use Rattle.link_trait.specs.Links.{LinkView}
 use Rattle.link_trait.specs.Spawners.{Retired}
 use Rattle.memory_nursery.specs.Scripts.{losses_of, refused_starts}
@@ -23,6 +23,7 @@ link_view l = record {
   reports = l.reports;
   alive = l.alive;
   ends = l.ends;
+  refused = None;
 }
 
 -- what they keep

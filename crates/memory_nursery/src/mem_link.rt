@@ -61,7 +61,7 @@ impl Model for RetiredLink {
 }
 
 impl MemLink {
-    ghost use Rattle.std.specs.Prelude.{◌≡◌, ◌≤◌, ◌^◌, ◌∷◌, [], true, length, Some, IfOk};
+    ghost use Rattle.std.specs.Prelude.{◌≡◌, ◌≤◌, ◌^◌, ◌∷◌, [], true, length, Some, None, IfOk};
     ghost use Rattle.link_trait.specs.Spawners.{kept_of};
     ghost use Rattle.memory_nursery.specs.Keeping.{KeepsLink};
     ghost use Rattle.memory_nursery.specs.Scripts.{moments_of, losses_of};
@@ -77,7 +77,7 @@ impl MemLink {
         world: World,
     ) -> Result<MemLink, Memory>
         requires { losses.now ≡ losses_of plan worker }
-        ensures { IfOk result (λ link. link ≡ record { worker = worker; mark = record { plan = plan; number = number }; peer = Some world; calls = 0; reports = 0; alive = true; ends = 0 }) }
+        ensures { IfOk result (λ link. link ≡ record { worker = worker; mark = record { plan = plan; number = number }; peer = Some world; calls = 0; reports = 0; alive = true; ends = 0; refused = None }) }
     {
         let moments = moments_in(alloc, losses, number)?;
         Ok(MemLink {
@@ -123,7 +123,7 @@ impl Link for MemLink {
     ghost use Rattle.px_io.specs.Causes.{one_more};
     ghost use Rattle.link_trait.specs.declared.faults.LinkFault.TheVariants as fault;
     ghost use Rattle.link_trait.specs.Counts.{HasRisen};
-    ghost use Rattle.link_trait.specs.Links.{Accepts, IsAnswered, IsDead, IsSameLink, is_told, peer_after, reports_with};
+    ghost use Rattle.link_trait.specs.Links.{Accepts, IsAnswered, IsDead, IsSameLink, is_told, peer_after, refused_after, reports_with};
     ghost use Rattle.memory_nursery.specs.Scripts.{is_to_end};
 
     ghost shown = { λ link. link };
@@ -150,10 +150,10 @@ impl Link for MemLink {
         ensures wanted { result ≡ Err fault.Memory → self.new ≡ record self.old { alive = false } }
         ensures risen { result ≡ Err fault.Ended → HasRisen self.old.ends self.new.ends }
         ensures broke { (broken : Broken) → result ≡ Err (fault.Broke broken) → is_told self.old ≡ false }
+        ensures refused { self.new.refused ≡ refused_after self.old.refused result }
         ensures dead { OnErr result (IsDead self.old self.new) }
         ensures same { IsSameLink self.old self.new }
     {
-        link_trait::order_has_frame(&given);
         let order = given.order();
         if some_comes(self.moments.as_slice(), next_count(self.calls), order) {
             self.alive = false;

@@ -1,0 +1,4 @@
+pub mod Stays
+pub mod Fitting
+pub mod Taking
+pub mod Work

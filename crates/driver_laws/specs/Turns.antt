@@ -83,22 +83,36 @@ pub record IsSameRun (old new : SystemState) : Type 0 where
 
 -- ---- how much may still happen
 
--- how many rounds the worker may still go, where it is live
-abbrev pub rounds_of : MembersState → MemberState → ℕ
-rounds_of m w = if w.live then (m.base + m.limits.rounds) - w.round else 0
-
--- how often workers can join: once each, and once after each loss that is allowed
+-- how often workers can join at most: once each, and once after each loss that is allowed
 abbrev pub most_joins : MembersState → ℕ
 most_joins m = m.limits.losses + length m.members
 
--- How much may still happen: how many joins, losses, rounds and reports are left. A join may bring back rounds, and a loss reports, so
--- each counts for more than these.
+-- how many joins and how many losses may still come
+abbrev pub joins_left : HubState → ℕ
+joins_left hub = most_joins hub.members - join_count hub.members
+
+abbrev pub losses_left : HubState → ℕ
+losses_left hub = most_joins hub.members + 1 - hub.members.epoch
+
+-- how many rounds a worker may still go, where it is live, and how many all of them
+abbrev pub rounds_of : MembersState → MemberState → ℕ
+rounds_of m w = if w.live then (m.base + m.limits.rounds) - w.round else 0
+
+abbrev pub rounds_left : HubState → ℕ
+rounds_left hub = sum_by (rounds_of hub.members) hub.members.members
+
+-- after no join are there more
+abbrev pub most_rounds : MembersState → ℕ
+most_rounds m = length m.members * (most_joins m * m.limits.rounds)
+
+-- how many workers haven't reported
+abbrev pub reports_left : HubState → ℕ
+reports_left hub = count_by is_none hub.reported
+
+-- How much may still happen: joins, losses, rounds and reports. A join may bring back rounds, and a loss reports, so each counts for
+-- more than these.
 abbrev pub work_left : HubState → ℕ
-work_left hub = let m = hub.members in let workers = length m.members in
-    (most_joins m - join_count m) * (workers * (most_joins m * m.limits.rounds) + 1)
-    + (most_joins m + 1 - m.epoch) * (workers + 1)
-    + sum_by (rounds_of m) m.members
-    + count_by is_none hub.reported
+work_left hub = joins_left hub * (most_rounds hub.members + 1) + losses_left hub * (length hub.members.members + 1) + rounds_left hub + reports_left hub
 
 -- The run goes on after a turn of worker i: less may still happen than before, unless the worker was told to wait.
 pub record GoesOn (i : ℕ) (old new : SystemState) : Type 0 where

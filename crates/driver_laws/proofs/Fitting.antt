@@ -143,6 +143,11 @@ ended_more losses loss = let one : Loss → ℕ = λ (l : Loss). if is_ended l.k
 ends_more : (n b ends link : ℕ) → HasRisenBy n 0 ends → b ≤ link → HasRisenBy (n + b) 0 (min (ends + link) LAST)
 ends_more n b ends link had one = omega arith
 
+-- the loss is of this kind for this reason: a link that tells has ended, and each end is counted
+pub record IsCause (h : SystemState) (kind : LossKind) (l : LinkView) : Type 0 where
+  pub kind_told : h.told ≡ true → kind ≡ Ended
+  pub counted : is_ended kind ≡ true → 1 ≤ l.ends
+
 module _ (h : SystemState) (i : ℕ) (kind : LossKind) (kept : KeepsAll h) (inside : i < worker_count h.hub) (live : (worker_at h.hub i).live ≡ true) where
   abbrev after : SystemState
   after = state_after h (lost i kind)
@@ -164,19 +169,19 @@ module _ (h : SystemState) (i : ℕ) (kind : LossKind) (kept : KeepsAll h) (insi
   not_named true = refl
   not_named false = refl
 
-  lost_counts : (p : SpawnerView) (l : LinkView) → CountsLosses h i p → (h.told ≡ true → kind ≡ Ended) → (is_ended kind ≡ true → 1 ≤ l.ends) → CountsLosses after i (discarded p l)
-  lost_counts p l counts ends_only counted = by_halt h.hub.halt refl
+  lost_counts : (p : SpawnerView) (l : LinkView) → CountsLosses h i p → (h.hub.halt ≡ None → IsCause h kind l) → CountsLosses after i (discarded p l)
+  lost_counts p l counts cause = by_halt h.hub.halt refl
     where
-      fewer : (b : Bool) → is_ended kind ≡ b → (if b then 1 else 0) ≤ l.ends
-      fewer true is = counted is
-      fewer false is = omega arith
+      fewer : h.hub.halt ≡ None → (b : Bool) → is_ended kind ≡ b → (if b then 1 else 0) ≤ l.ends
+      fewer free true is = (cause free).counted is
+      fewer free false is = omega arith
 
       by_halt : (o : Option Why) → h.hub.halt ≡ o → CountsLosses after i (discarded p l)
       by_halt None free = record {
         most_starts = rw (losses_are, length-append) (omega (arith, counts.most_starts));
         starts = λ still. rw (losses_are, gone, length-append) (omega (arith, rw live at (counts.starts free)));
-        kinds = λ tells. rw losses_are (All-push (λ (x : Loss). x.kind ≡ Ended) (losses_of h i) the_loss (counts.kinds tells) (ends_only tells));
-        ends = rw (losses_are, ended_more (losses_of h i) the_loss) (ends_more (ended_count (losses_of h i)) (if is_ended kind then 1 else 0) p.ends l.ends counts.ends (fewer (is_ended kind) refl));
+        kinds = λ tells. rw losses_are (All-push (λ (x : Loss). x.kind ≡ Ended) (losses_of h i) the_loss (counts.kinds tells) ((cause free).kind_told tells));
+        ends = rw (losses_are, ended_more (losses_of h i) the_loss) (ends_more (ended_count (losses_of h i)) (if is_ended kind then 1 else 0) p.ends l.ends counts.ends (fewer free (is_ended kind) refl));
         refused = λ named. absurd (cc (named, ap (names_worker i) halt_is, not_named (nat_lt h.hub.members.limits.losses (length h.hub.members.losses + 1))));
       }
         where
@@ -200,10 +205,10 @@ module _ (h : SystemState) (i : ℕ) (kind : LossKind) (kept : KeepsAll h) (insi
           halt_is = ap (λ (x : Option Why). halt_then x (nat_lt h.hub.members.limits.losses (length h.hub.members.losses + 1))) is
 
   -- a worker is missing after its loss, and its link came back
-  pub lost_fits : (p : SpawnerView) (l : LinkView) → IsSpawnerOf h i p → CountsLosses h i p → (h.told ≡ true → kind ≡ Ended) → (is_ended kind ≡ true → 1 ≤ l.ends) → IsMissing after i (discarded p l)
-  lost_fits p l is counts ends_only counted = record {
+  pub lost_fits : (p : SpawnerView) (l : LinkView) → IsSpawnerOf h i p → CountsLosses h i p → (h.hub.halt ≡ None → IsCause h kind l) → IsMissing after i (discarded p l)
+  lost_fits p l is counts cause = record {
     spawner = record { worker = is.worker; tells = is.tells; retired = is.retired };
-    counts = lost_counts p l counts ends_only counted;
+    counts = lost_counts p l counts cause;
     out = refl;
     missing = gone;
   }

@@ -2,3 +2,5 @@ pub mod Stays
 pub mod Fitting
 pub mod Taking
 pub mod Work
+pub mod Moves
+pub mod Parts

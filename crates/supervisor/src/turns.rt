@@ -7,7 +7,7 @@ ghost use Rattle.hub_terms.specs.Systems.{lost, state_after};
 ghost use Rattle.link_trait.specs.Spawners.{IsLinkOf, discarded};
 ghost use Rattle.system_core.specs.Promises.{IsHandedOut};
 ghost use Rattle.driver_laws.specs.Seats.{Fits, IsLinked, IsMissing};
-ghost use Rattle.driver_laws.specs.Turns.{GoesOn, IsNearer, IsOver, IsReply, IsTurn};
+ghost use Rattle.driver_laws.specs.Turns.{GoesOn, IsOver, IsReply, IsTurn};
 ghost use Rattle.supervisor.specs.Teams.{IsTeamOf};
 
 use crate::team::Team;
@@ -57,8 +57,9 @@ fn work_at<S: Spawner, R: Threads + Wait + Sync>(
     ensures idle { order_at system.new.hub i ≡ None }
     ensures fits { Fits system.new i (S.shown spawner.new) (option_map S.L.shown link.new) }
     ensures mark { (S.shown spawner.new).lent_as ≡ (S.shown spawner.old).lent_as }
-    ensures went { MatchBool result (IsOver system.new) (IsNearer system.old system.new) }
+    ensures went { MatchBool result (IsOver system.new) (system.new.hub.halt ≡ None) }
 {
+    system.known();
     match own.call(rt, given) {
         Ok(answer) => match system.took(i, &answer) {
             Ok(()) => {
@@ -98,6 +99,7 @@ fn ask_at<S: Spawner, R: Threads + Wait + Sync>(
     ensures mark { (S.shown spawner.new).lent_as ≡ (S.shown spawner.old).lent_as }
     ensures went { MatchBool result (IsOver system.new) (GoesOn i system.old system.new) }
 {
+    system.known();
     match system.give(i) {
         Ok(Turn::Work(given)) => work_at(rt, i, given, system, spawner, link, own),
         Ok(Turn::Wait) => {
@@ -140,6 +142,7 @@ fn start_at<S: Spawner, R: Threads + Wait + Sync>(
     ensures mark { (S.shown spawner.new).lent_as ≡ (S.shown spawner.old).lent_as }
     ensures went { MatchBool result (IsOver system.new) (GoesOn i system.old system.new) }
 {
+    system.known();
     let part = &team.parts.as_slice()[i as usize];
     match spawner.start(rt, part, &team.core, team.chunks) {
         Ok(started) => {

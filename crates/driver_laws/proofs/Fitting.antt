@@ -1,7 +1,8 @@
 -- Spawner and link of a worker go with the state, after each event of its turn and after any turn of another worker.
-use Rattle.std.proofs.Common.{◌≡◌, ◌≢◌, ℕ, ◌+◌, ◌<◌, ◌≤◌, Bool, true, false, cond, List, [], ◌∷◌, ◌++◌, Option, Some, None, length, set, arith, refl, sym, ap, subst, ◌∙◌, inl, inr, ⊎_elim, eq-eqb}
+use Rattle.std.proofs.Common.{◌≡◌, ◌≢◌, ℕ, ◌+◌, ◌<◌, ◌≤◌, ◌^◌, Bool, true, false, cond, List, [], ◌∷◌, ◌++◌, Option, Some, None, length, set, arith, refl, sym, ap, subst, ◌∙◌, inl, inr, ⊎_elim, eq-eqb}
 use Rattle.std.specs.Prelude.{◌==◌, ◌⊎◌, All, MatchOption, Ok, filter, count_by, min, nat_lt, is_none, is_some, if◌then◌else◌}
 use Rattle.std.proofs.lemmas.List.{get_or-set_same, length-append}
+use Rattle.std.proofs.lemmas.Bool.{cases_lt}
 use Rattle.std.proofs.lemmas.List.Elements.{filter-append, All-push}
 use Rattle.std.proofs.lemmas.List.Sums.{sum_by-append, sum_by-cons}
 use Rattle.px_io.specs.Causes.{LAST, one_more}
@@ -28,6 +29,7 @@ use Rattle.hub_terms.specs.Seats.{SeatPart, names_worker, seat_part}
 use Rattle.hub_terms.specs.Systems.{SystemState, give, halt, joined, lost, new_world_at, part_at, state_after, world_at, with_world}
 use Rattle.link_trait.specs.Links.{LinkView, IsSameLink}
 use Rattle.link_trait.specs.Spawners.{SpawnerView, IsLinkOf, IsStarted, discarded, new_peer}
+use Rattle.list_laws.proofs.Lists.{counted_most}
 use Rattle.hub_laws.proofs.Workers.{due_tasked, live_tasked, re_tasked}
 use Rattle.hub_laws.proofs.HubGave.{turn_by}
 use Rattle.hub_laws.proofs.HubChanged.{joined_worker, lost_worker}
@@ -249,3 +251,15 @@ module _ (s : SystemState) (i : ℕ) (kept : KeepsAll s) (inside : i < worker_co
 
       world_is : world_at (state_after s (joined i)) i ≡ new_world_at s i
       world_is = world_there s i (new_world_at s i) (state_after s (joined i)).hub (omega (arith, inside, kept.in_step.job.worlds))
+
+-- ---- how often a link was started
+
+-- a spawner has started few links, while nothing stops the run
+pub few_starts : (s : SystemState) (i : ℕ) (p : SpawnerView) → KeepsAll s → s.hub.halt ≡ None → CountsLosses s i p → p.starts < 2 ^ 32
+few_starts s i p kept free counts = omega (arith, counts.most_starts, counted_most (λ (loss : Loss). loss.worker == i) s.hub.members.losses, within, kept.in_step.hub.limits.losses)
+  where
+    within : length s.hub.members.losses ≤ s.hub.members.limits.losses
+    within = elim (cases_lt s.hub.members.limits.losses (length s.hub.members.losses)) [
+      | inl more ↦ absurd (cc (free, kept.in_step.hub.epochs.loss_limit.0 more))
+      | inr few ↦ few
+    ]

@@ -3,6 +3,7 @@ use Rattle.std.proofs.Common.{◌≡◌, ◌≢◌, ℕ, ◌+◌, ◌<◌, ◌�
 use Rattle.std.specs.Prelude.{◌⊎◌, MatchBool, Result, Ok, Err, is_some, nat_lt, length, if◌then◌else◌}
 use Rattle.std.proofs.lemmas.List.{get_or-set_same}
 use Rattle.px_base.specs.declared.wire.Answer.{Answer}
+use Rattle.px_base.specs.declared.wire.Broken.{Broken}
 use Rattle.px_base.specs.declared.wire.Foreign.{Foreign}
 use Rattle.px_base.specs.declared.wire.LossKind.{LossKind}
 use Rattle.px_base.specs.declared.wire.LossKind.TheVariants.{Ended, Broke}
@@ -19,6 +20,7 @@ use Rattle.hub_terms.specs.Hubs.{HubState, Turn, after_turn, done, order_at, sto
 use Rattle.hub_terms.specs.HubEvents.{after_answer, after_halt, after_loss, why_of}
 use Rattle.hub_terms.specs.UnderWay.{order_epoch}
 use Rattle.hub_terms.specs.Systems.{SystemState, Event, IsRun, MayCome, give, halt, joined, lost, state_after, state_after_all, state_taken, took}
+use Rattle.link_trait.specs.Counts.{HasRisen}
 use Rattle.link_trait.specs.Links.{LinkView}
 use Rattle.link_trait.specs.Spawners.{SpawnerView, discarded}
 use Rattle.system_core.specs.Promises.{IsHandedOut}
@@ -202,3 +204,21 @@ module _ (s t : SystemState) (i : ℕ) (kept : KeepsAll s) (may : MayCome s (giv
     done = λ none. absurd (cc none);
     spent = λ budget. give_first_spent s i kept free (stops ∙ ap stop (some_same reason why.Budget budget));
   })
+
+-- ---- why a worker was lost
+
+-- its link ended
+pub ended_cause : (g : SystemState) (l m : LinkView) → HasRisen l.ends m.ends → IsCause g Ended m
+ended_cause g l m risen = record { kind_told = λ tells. refl; counted = λ ended. omega (arith, risen) }
+
+-- its link doesn't tell, and broke, or gave an answer that the hub refuses
+pub broke_cause : (g : SystemState) (fault : Broken) (m : LinkView) → (g.told ≡ true → ⊥) → IsCause g (Broke fault) m
+broke_cause g fault m silent = record { kind_told = λ tells. absurd (silent tells); counted = λ ended. absurd (cc ended) }
+
+-- an answer that the hub refuses changes nothing
+pub refused_same : (g t : SystemState) (i : ℕ) (answer : Answer) (foreign : Foreign) → t ≡ state_after g (took i answer) → after_answer g.hub i answer ≡ Err foreign → t ≡ g
+refused_same g t i answer foreign is refused = is ∙ ap (state_taken g i) refused
+
+-- an event after the same state leads to the same state
+pub after_same : (g h t : SystemState) (e : Event) → h ≡ g → t ≡ state_after h e → t ≡ state_after g e
+after_same g h t e same is = is ∙ ap (λ (u : SystemState). state_after u e) same

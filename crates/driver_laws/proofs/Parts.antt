@@ -1,5 +1,5 @@
 -- A link can be started on each part of a sound job.
-use Rattle.std.proofs.Common.{◌≡◌, ℕ, ◌<◌, ◌≤◌, ◌^◌, List, length, arith, subst, sym}
+use Rattle.std.proofs.Common.{◌≡◌, ℕ, ◌<◌, ◌≤◌, List, length, get_or, arith, ap, ◌∙◌}
 use Rattle.std.specs.Prelude.{All}
 use Rattle.std.specs.List.Sorted.{IsSortedBy}
 use Rattle.px_base.specs.declared.graph.Part.{Part}
@@ -7,6 +7,8 @@ use Rattle.px_base.specs.declared.graph.Read.{Read}
 use Rattle.px_base.specs.declared.program.CoreProgram.{CoreProgram}
 use Rattle.px_base.specs.Graphs.{is_lower_read}
 use Rattle.px_base.specs.Parts.{high_of, low_of}
+use Rattle.px_base.specs.Values.{by_position}
+use Rattle.px_base.proofs.Positions.{at_position, length_by_position}
 use Rattle.partitioner.proofs.Fitting.{fewer_reads, part_holds}
 use Rattle.step_laws.proofs.JobParts.{job_part_fits, job_part_weights}
 use Rattle.hub_terms.specs.Hubs.{worker_count}
@@ -26,3 +28,10 @@ part_can_start s i chunks part core fits inside some few its_part its_core = rw 
   some_chunks = some;
   few_chunks = few;
 })
+
+-- the entry that was read of a list by position
+pub entry_is : {X : Type 0} (xs : List X) (n i : ℕ) (f : ℕ → X) (x : X) → xs ≡ by_position n f → i < n → x ≡ get_or xs i x → x ≡ f i
+entry_is xs n i f x are inside is = is ∙ (ap (λ (ys : List _). get_or ys i x) are ∙ at_position n f i x inside)
+
+pub entry_inside : {X : Type 0} (xs : List X) (n i : ℕ) (f : ℕ → X) → xs ≡ by_position n f → i < n → i < length xs
+entry_inside xs n i f are inside = omega (arith, ap length are, length_by_position n f)

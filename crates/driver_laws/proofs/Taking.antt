@@ -107,7 +107,7 @@ module _ (s : SystemState) (i : ℕ) (given : GivenState) (kept : KeepsAll s) (p
   honest_answer answer honest tells = let w = world_of_live s i kept.in_step.live_worlds tells fit.live in
       rw (handed.order, w.1) (subst (λ (o : Option World). IsHonestTo o given.order answer) (fit.peer ∙ w.1) honest)
 
-  tells_peer : s.told ≡ true → is_told l ≡ true
+  pub tells_peer : s.told ≡ true → is_told l ≡ true
   tells_peer tells = ap is_some fit.peer ∙ has_peer s i kept fit.live tells
 
   -- the link goes with the worker that answered

@@ -4,3 +4,4 @@ pub mod Taking
 pub mod Work
 pub mod Moves
 pub mod Parts
+pub mod Tune

@@ -114,10 +114,16 @@ reports_left hub = count_by is_none hub.reported
 abbrev pub work_left : HubState → ℕ
 work_left hub = joins_left hub * (most_rounds hub.members + 1) + losses_left hub * (length hub.members.members + 1) + rounds_left hub + reports_left hub
 
+-- nothing has changed, since worker i is live and was told to wait
+pub record HasWaited (i : ℕ) (old new : SystemState) : Type 0 where
+  pub same : new ≡ old
+  pub live : (worker_at old.hub i).live ≡ true
+  pub told : turn_of old.hub i ≡ wait
+
 -- The run goes on after a turn of worker i: less may still happen than before, unless the worker was told to wait.
 pub record GoesOn (i : ℕ) (old new : SystemState) : Type 0 where
   pub free : new.hub.halt ≡ None
-  pub moved : (work_left new.hub < work_left old.hub) ⊎ ((new ≡ old) × (turn_of old.hub i ≡ wait))
+  pub moved : (work_left new.hub < work_left old.hub) ⊎ HasWaited i old new
 
 -- The run goes on after each worker had a turn, and less may still happen.
 pub record IsNearer (old new : SystemState) : Type 0 where

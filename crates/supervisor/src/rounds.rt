@@ -28,6 +28,7 @@ fn round<S: Spawner, R: Threads + Wait + Sync>(
     ensures marks { marks_of (map S.shown spawners.new.items) ≡ marks_of (map S.shown spawners.old.items) }
     ensures went { MatchBool result (IsOver system.new) (IsNearer system.old system.new) }
 {
+    system.known();
     for i in 0..system.worker_count() {
         let spawner = &mut spawners[i as usize];
         let link = &mut links[i as usize];

@@ -5,3 +5,4 @@ pub mod Work
 pub mod Moves
 pub mod Parts
 pub mod Tune
+pub mod Release

@@ -46,7 +46,7 @@ tune_after s t i ps ls p l kept turn inside tune fit = record {
 -- ---- over what they are views of
 
 -- what is shown of the element that was read
-shown_at : {A B : Type 0} (f : A → B) (xs : List A) (i : ℕ) (x : A) (e : B) → i < length xs → x ≡ get_or xs i x → get_or (map f xs) i e ≡ f x
+pub shown_at : {A B : Type 0} (f : A → B) (xs : List A) (i : ℕ) (x : A) (e : B) → i < length xs → x ≡ get_or xs i x → get_or (map f xs) i e ≡ f x
 shown_at f xs i x e inside is = get_or-map f xs i x e inside ∙ ap f (sym is)
 
 module _ {A L : Type 0} (f : A → SpawnerView) (h : L → LinkView) (xs : List A) (ls : List (Option L)) (i : ℕ) (x : A) (l : Option L) (s : SystemState) (tune : IsInTune s (map f xs) (map (option_map h) ls)) (inside : i < worker_count s.hub) where

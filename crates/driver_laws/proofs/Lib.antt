@@ -6,3 +6,4 @@ pub mod Moves
 pub mod Parts
 pub mod Tune
 pub mod Release
+pub mod Opening

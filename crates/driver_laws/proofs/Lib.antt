@@ -7,3 +7,5 @@ pub mod Parts
 pub mod Tune
 pub mod Release
 pub mod Opening
+pub mod Counted
+pub mod Freed

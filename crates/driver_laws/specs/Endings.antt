@@ -25,9 +25,9 @@ use Rattle.driver_laws.specs.Seats.{HasRisenBy, ended_count, naming}
 
 -- ---- what is the same however it ended
 
--- no count of the list has fallen
+-- No count of the list has fallen. Each stops at its last value.
 abbrev pub NoneFell : List ℕ → List ℕ → Type 0
-NoneFell before now = (k : ℕ) → slice_index before k ≤ slice_index now k
+NoneFell before now = (k : ℕ) → HasRisenBy 0 (slice_index before k) (slice_index now k)
 
 -- the links that were retired since
 abbrev pub retired_since : NurseryView → NurseryView → List Retired

@@ -28,7 +28,7 @@ use Rattle.hub_terms.specs.Hubs.{HubState, Turn, after_turn, order_at, reported_
 use Rattle.hub_terms.specs.Seats.{SeatPart, names_worker, seat_part}
 use Rattle.hub_terms.specs.Systems.{SystemState, give, halt, joined, lost, new_world_at, part_at, state_after, world_at, with_world}
 use Rattle.link_trait.specs.Links.{LinkView, IsSameLink}
-use Rattle.link_trait.specs.Spawners.{SpawnerView, IsLinkOf, IsStarted, discarded, new_peer}
+use Rattle.link_trait.specs.Spawners.{SpawnerView, IsLinkOf, IsStarted, discarded, new_peer, not_started}
 use Rattle.list_laws.proofs.Lists.{counted_most}
 use Rattle.hub_laws.proofs.Workers.{due_tasked, live_tasked, re_tasked}
 use Rattle.hub_laws.proofs.HubGave.{turn_by}
@@ -43,6 +43,7 @@ use Rattle.driver_laws.proofs.Stays.{GainsNothing, Stays}
 -- the states are the same in all that worker j's spawner and link go with
 pub record SameFor (s t : SystemState) (j : ℕ) : Type 0 where
   pub told : t.told ≡ s.told
+  pub limits : t.hub.members.limits ≡ s.hub.members.limits
   pub live : (worker_at t.hub j).live ≡ (worker_at s.hub j).live
   pub losses : losses_of t j ≡ losses_of s j
   pub world : world_at t j ≡ world_at s j
@@ -55,6 +56,7 @@ module _ (s t : SystemState) (j : ℕ) (same : SameFor s t j) where
 
   counts_after : (p : SpawnerView) → CountsLosses s j p → CountsLosses t j p
   counts_after p counts = record {
+    few_starts = rw same.limits counts.few_starts;
     most_starts = rw same.losses counts.most_starts;
     starts = λ free. rw (same.losses, same.live) (counts.starts (same.gains.free free));
     kinds = λ tells. rw same.losses (counts.kinds (sym same.told ∙ tells));
@@ -83,6 +85,7 @@ module _ (s t : SystemState) (j : ℕ) (same : SameFor s t j) where
 pub fits_after : (s t : SystemState) (j : ℕ) → Stays s t j → (p : SpawnerView) (l : Option LinkView) → Fits s j p l → Fits t j p l
 fits_after s t j stays = fits_same s t j (record {
   told = ap (λ (x : SeatPart). x.told) stays.seat;
+  limits = ap (λ (x : SeatPart). x.limits) stays.seat;
   live = ap (λ (x : SeatPart). x.live) stays.seat;
   losses = ap (λ (x : SeatPart). x.losses) stays.seat;
   world = ap (λ (x : SeatPart). x.world) stays.seat;
@@ -96,6 +99,7 @@ module _ (s : SystemState) (i : ℕ) (free : s.hub.halt ≡ None) where
       SameFor s (record s { hub = record s.hub { members = re_tasked s.hub.members i t; inboxes = record s.hub.inboxes { boxes = boxes }; orders = orders } }) i
   tasked boxes orders t = record {
     told = refl;
+    limits = refl;
     live = live_tasked s.hub.members i t i;
     losses = refl;
     world = refl;
@@ -106,6 +110,7 @@ module _ (s : SystemState) (i : ℕ) (free : s.hub.halt ≡ None) where
   halted : (reason : Why) → names_worker i (Some reason) ≡ false → SameFor s (record s { hub = record s.hub { halt = Some reason } }) i
   halted reason other = record {
     told = refl;
+    limits = refl;
     live = refl;
     losses = refl;
     world = refl;
@@ -114,7 +119,7 @@ module _ (s : SystemState) (i : ℕ) (free : s.hub.halt ≡ None) where
   }
 
   untouched : SameFor s s i
-  untouched = record { told = refl; live = refl; losses = refl; world = refl; named = refl; gains = record { due = λ h. h; reported = λ values h. h; free = λ h. h } }
+  untouched = record { told = refl; limits = refl; live = refl; losses = refl; world = refl; named = refl; gains = record { due = λ h. h; reported = λ values h. h; free = λ h. h } }
 
   gave_same : SameFor s (state_after s (give i)) i
   gave_same = turn_by (λ (turn : Turn). SameFor s (record s { hub = after_turn s.hub i turn }) i) s.hub i
@@ -180,6 +185,7 @@ module _ (h : SystemState) (i : ℕ) (kind : LossKind) (kept : KeepsAll h) (insi
 
       by_halt : (o : Option Why) → h.hub.halt ≡ o → CountsLosses after i (discarded p l)
       by_halt None free = record {
+        few_starts = counts.few_starts;
         most_starts = rw (losses_are, length-append) (omega (arith, counts.most_starts));
         starts = λ still. rw (losses_are, gone, length-append) (omega (arith, rw live at (counts.starts free)));
         kinds = λ tells. rw losses_are (All-push (λ (x : Loss). x.kind ≡ Ended) (losses_of h i) the_loss (counts.kinds tells) ((cause free).kind_told tells));
@@ -193,6 +199,7 @@ module _ (h : SystemState) (i : ℕ) (kind : LossKind) (kept : KeepsAll h) (insi
           halt_is : after.hub.halt ≡ halt_then None (nat_lt h.hub.members.limits.losses (length h.hub.members.losses + 1))
           halt_is = ap (λ (x : Option Why). halt_then x (nat_lt h.hub.members.limits.losses (length h.hub.members.losses + 1))) free
       by_halt (Some reason) is = record {
+        few_starts = counts.few_starts;
         most_starts = rw losses_are counts.most_starts;
         starts = λ still. absurd (cc (still, halt_is));
         kinds = λ tells. rw losses_are (counts.kinds tells);
@@ -215,6 +222,42 @@ module _ (h : SystemState) (i : ℕ) (kind : LossKind) (kept : KeepsAll h) (insi
     missing = gone;
   }
 
+-- ---- a start
+
+-- while nothing stops the run, no more losses were noted than are allowed
+few_losses : (s : SystemState) (i : ℕ) → KeepsAll s → s.hub.halt ≡ None → length (losses_of s i) ≤ s.hub.members.limits.losses
+few_losses s i kept free = omega (arith, counted_most (λ (loss : Loss). loss.worker == i) s.hub.members.losses, within)
+  where
+    within : length s.hub.members.losses ≤ s.hub.members.limits.losses
+    within = elim (cases_lt s.hub.members.limits.losses (length s.hub.members.losses)) [
+      | inl more ↦ absurd (cc (free, kept.in_step.hub.epochs.loss_limit.0 more))
+      | inr few ↦ few
+    ]
+
+-- a spawner has started few links
+pub can_start : (s : SystemState) (i : ℕ) (p : SpawnerView) → KeepsAll s → CountsLosses s i p → p.starts < 2 ^ 32
+can_start s i p kept counts = omega (arith, counts.few_starts, kept.in_step.hub.limits.losses)
+
+-- a start that gave no link, and so stops the run
+pub not_started_fits : (s : SystemState) (i faults : ℕ) (reason : Why) (p : SpawnerView) → KeepsAll s → s.hub.halt ≡ None → IsMissing s i p → (names_worker i (Some reason) ≡ true → 1 ≤ faults) →
+    IsMissing (record s { hub = record s.hub { halt = Some reason } }) i (not_started p faults)
+not_started_fits s i faults reason p kept free fit refused = record {
+  spawner = record { worker = fit.spawner.worker; tells = fit.spawner.tells; retired = fit.spawner.retired };
+  counts = record {
+    few_starts = omega (arith, counted, few_losses s i kept free);
+    most_starts = omega (arith, counted);
+    starts = λ still. absurd (cc still);
+    kinds = fit.counts.kinds;
+    ends = fit.counts.ends;
+    refused = refused;
+  };
+  out = fit.out;
+  missing = fit.missing;
+}
+  where
+    counted : p.starts ≡ length (losses_of s i) + 0
+    counted = rw fit.missing at (fit.counts.starts free)
+
 -- ---- a join
 
 module _ (s : SystemState) (i : ℕ) (kept : KeepsAll s) (inside : i < worker_count s.hub) (free : s.hub.halt ≡ None) where
@@ -224,6 +267,7 @@ module _ (s : SystemState) (i : ℕ) (kept : KeepsAll s) (inside : i < worker_co
   joined_fits p q part core l fit started its_part its_core = record {
     spawner = record { worker = ap (λ (x : SpawnerView). x.worker) started.spawner ∙ fit.spawner.worker; tells = ap (λ (x : SpawnerView). x.tells) started.spawner ∙ fit.spawner.tells; retired = ap (λ (x : SpawnerView). x.retired) started.spawner ∙ fit.spawner.retired };
     counts = record {
+      few_starts = omega (arith, starts_are, counted, few_losses s i kept free);
       most_starts = omega (arith, starts_are, counted);
       starts = λ still. rw is_live (omega (arith, starts_are, counted));
       kinds = fit.counts.kinds;
@@ -251,15 +295,3 @@ module _ (s : SystemState) (i : ℕ) (kept : KeepsAll s) (inside : i < worker_co
 
       world_is : world_at (state_after s (joined i)) i ≡ new_world_at s i
       world_is = world_there s i (new_world_at s i) (state_after s (joined i)).hub (omega (arith, inside, kept.in_step.job.worlds))
-
--- ---- how often a link was started
-
--- a spawner has started few links, while nothing stops the run
-pub few_starts : (s : SystemState) (i : ℕ) (p : SpawnerView) → KeepsAll s → s.hub.halt ≡ None → CountsLosses s i p → p.starts < 2 ^ 32
-few_starts s i p kept free counts = omega (arith, counts.most_starts, counted_most (λ (loss : Loss). loss.worker == i) s.hub.members.losses, within, kept.in_step.hub.limits.losses)
-  where
-    within : length s.hub.members.losses ≤ s.hub.members.limits.losses
-    within = elim (cases_lt s.hub.members.limits.losses (length s.hub.members.losses)) [
-      | inl more ↦ absurd (cc (free, kept.in_step.hub.epochs.loss_limit.0 more))
-      | inr few ↦ few
-    ]

@@ -1,8 +1,9 @@
 -- The spawners once their links were taken back: they can go back to the nursery, and what their counts say of the run.
-use Rattle.std.proofs.Common.{◌≡◌, ℕ, ◌+◌, ◌<◌, ◌≤◌, Bool, true, false, List, [], ◌∷◌, length, map, get_or, Option, Some, None, arith, refl, sym, ap, ◌∙◌, subst, zero-add, eq-eqb}
+use Rattle.std.proofs.Common.{◌≡◌, ℕ, ◌+◌, ◌*◌, ◌<◌, ◌≤◌, Bool, true, false, List, [], ◌∷◌, length, map, get_or, Option, Some, None, arith, refl, sym, ap, ◌∙◌, subst, zero-add, eq-eqb}
 use Rattle.std.specs.Prelude.{All, MatchOption, min, sum, sum_by, if◌then◌else◌, ⊤}
 use Rattle.std.proofs.lemmas.List.{ext_get_or, get_or-map, length-map, length-replicate, length-set}
 use Rattle.std.proofs.lemmas.List.Elements.{All-from_get_or}
+use Rattle.std.proofs.lemmas.List.Sums.{sum_by-le}
 use Rattle.std.proofs.lemmas.List.FromFn.{get_or-range_with_len, length-range_with_len}
 use Rattle.px_io.specs.Causes.{LAST}
 use Rattle.px_base.specs.declared.wire.Loss.{Loss}
@@ -40,6 +41,7 @@ pub record IsFreed (s : SystemState) (k : ℕ) (q : SpawnerView) : Type 0 where
 
 came_back : (s : SystemState) (k : ℕ) (p : SpawnerView) (l : LinkView) → CountsLosses s k p → CountsLosses s k (discarded p l)
 came_back s k p l counts = record {
+  few_starts = counts.few_starts;
   most_starts = counts.most_starts;
   starts = counts.starts;
   kinds = counts.kinds;
@@ -50,7 +52,7 @@ came_back s k p l counts = record {
 freed : (s : SystemState) (k : ℕ) (keep : Bool) (p : SpawnerView) (o : Option LinkView) → Fits s k p o → IsFreed s k (released keep p o)
 freed s k keep p None fit = record { worker = fit.spawner.worker; out = fit.out; counts = fit.counts }
 freed s k true p (Some l) fit = let counts = came_back s k p l fit.counts in
-    record { worker = fit.spawner.worker; out = refl; counts = record { most_starts = counts.most_starts; starts = counts.starts; kinds = counts.kinds; ends = counts.ends; refused = counts.refused } }
+    record { worker = fit.spawner.worker; out = refl; counts = record { few_starts = counts.few_starts; most_starts = counts.most_starts; starts = counts.starts; kinds = counts.kinds; ends = counts.ends; refused = counts.refused } }
 freed s k false p (Some l) fit = record { worker = fit.spawner.worker; out = refl; counts = came_back s k p l fit.counts }
 
 same_mark : (keep : Bool) (p : SpawnerView) (o : Option LinkView) → (released keep p o).lent_as ≡ p.lent_as
@@ -131,6 +133,13 @@ module _ (s : SystemState) (keep : Bool) (ps qs : List SpawnerView) (ls : List (
 
   total_is : KeepsAll s → sum_by (λ (k : ℕ). length (naming k losses) + 1) (positions_below (length starts)) ≡ length losses + n
   total_is kept = rw (count_size (λ (q : SpawnerView). q.starts)) (sum_one_more (λ (k : ℕ). length (naming k losses)) n ∙ ap (λ (m : ℕ). m + n) (named_total n losses (loss_workers kept)))
+
+  -- few starts, whatever stops the run
+  pub few_starts : KeepsAll s → sum starts ≤ n * 1001
+  few_starts kept = let each = sum_by-le (λ (m : ℕ). m) 1001 starts (All-from_get_or (λ (m : ℕ). m ≤ 1001) starts 0 (λ k below.
+      let here : k < n = omega (arith, below, count_size (λ (q : SpawnerView). q.starts)) in
+      omega (arith, count_at (λ (q : SpawnerView). q.starts) k here, (freed_at k no_spawner here).counts.few_starts, kept.in_step.hub.limits.losses))) in
+      rw (count_size (λ (q : SpawnerView). q.starts)) at each
 
   -- no more starts than workers and losses
   pub most_starts : KeepsAll s → sum starts ≤ length losses + n

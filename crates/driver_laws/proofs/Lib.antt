@@ -9,3 +9,4 @@ pub mod Release
 pub mod Opening
 pub mod Counted
 pub mod Freed
+pub mod Kept

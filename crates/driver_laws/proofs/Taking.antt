@@ -39,6 +39,7 @@ ok_same r a b one two = cc
 -- of worker i, whose order this was, the hub knows only that it has reported, if that is what it had to do
 pub record Absorbs (hub new : HubState) (i : ℕ) (order : Order) : Type 0 where
   pub halt : new.halt ≡ hub.halt
+  pub limits : new.members.limits ≡ hub.members.limits
   pub losses : new.members.losses ≡ hub.members.losses
   pub live : (worker_at new i).live ≡ (worker_at hub i).live
   pub idle : order_at new i ≡ None
@@ -49,6 +50,7 @@ module _ (hub : HubState) (i : ℕ) (ok : IsHubInStep hub) (inside : i < worker_
       Absorbs hub (stepped_hub b hub i changed updates) i (Step epoch round sent)
   stepped_absorbs epoch round sent changed updates had values b = record {
     halt = refl;
+    limits = refl;
     losses = refl;
     live = took_live hub i epoch round sent changed updates ok inside had values b i;
     idle = took_order hub i epoch round sent changed updates ok inside had values b;
@@ -58,6 +60,7 @@ module _ (hub : HubState) (i : ℕ) (ok : IsHubInStep hub) (inside : i < worker_
   told_absorbs : (epoch : ℕ) (seen : List ℕ) → order_at hub i ≡ Some (Report epoch) → AnswersValues (Reported epoch seen) → (b : Bool) → (epoch == hub.members.epoch) ≡ b → Absorbs hub (reported_hub b hub i seen) i (Report epoch)
   told_absorbs epoch seen had known b now = record {
     halt = refl;
+    limits = refl;
     losses = refl;
     live = live_tasked hub.members i task.Nothing i;
     idle = told_order hub i epoch seen ok inside had known b;
@@ -134,6 +137,7 @@ module _ (s : SystemState) (i : ℕ) (given : GivenState) (kept : KeepsAll s) (p
     took_fits = record {
       spawner = record { worker = fit.spawner.worker; tells = fit.spawner.tells; retired = fit.spawner.retired };
       counts = record {
+        few_starts = rw absorbed.limits fit.counts.few_starts;
         most_starts = rw losses_same fit.counts.most_starts;
         starts = λ free. rw (losses_same, absorbed.live) (fit.counts.starts (sym absorbed.halt ∙ free));
         kinds = λ tells. rw losses_same (fit.counts.kinds tells);

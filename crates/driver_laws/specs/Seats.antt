@@ -46,6 +46,7 @@ pub record IsSpawnerOf (s : SystemState) (i : ℕ) (p : SpawnerView) : Type 0 wh
 -- run, but for one start that gave none; links that tell are lost only by ending, and each such end is counted; and where the run
 -- stops since there is no replacement for the worker, a start of its spawner was refused.
 pub record CountsLosses (s : SystemState) (i : ℕ) (p : SpawnerView) : Type 0 where
+  pub few_starts : p.starts ≤ s.hub.members.limits.losses + 1
   pub most_starts : p.starts ≤ length (losses_of s i) + 1
   pub starts : s.hub.halt ≡ None → p.starts ≡ length (losses_of s i) + (if (worker_at s.hub i).live then 1 else 0)
   pub kinds : s.told ≡ true → All (λ loss. loss.kind ≡ Ended) (losses_of s i)

@@ -13,7 +13,7 @@ use Rattle.recovery.specs.Givens.{GivenState}
 use Rattle.recovery.specs.TurnFor.{turn_for}
 use Rattle.recovery.specs.declared.given.Turn.TheVariants as told
 use Rattle.hub_terms.specs.declared.stops.Halt.{Halt}
-use Rattle.hub_terms.specs.declared.stops.Halt.TheVariants.{Memory}
+use Rattle.hub_terms.specs.declared.stops.Halt.TheVariants.{Memory, NoReplacement}
 use Rattle.hub_terms.specs.declared.stops.Why.{Why}
 use Rattle.hub_terms.specs.declared.stops.Why.TheVariants as why
 use Rattle.hub_terms.specs.Hubs.{HubState, Turn, after_turn, done, order_at, stop, turn_of, wait, waiting_at, work, worker_at, worker_count}
@@ -22,7 +22,7 @@ use Rattle.hub_terms.specs.UnderWay.{order_epoch}
 use Rattle.hub_terms.specs.Systems.{SystemState, Event, IsRun, MayCome, give, halt, joined, lost, state_after, state_after_all, state_taken, took}
 use Rattle.link_trait.specs.Counts.{HasRisen}
 use Rattle.link_trait.specs.Links.{LinkView}
-use Rattle.link_trait.specs.Spawners.{SpawnerView, discarded}
+use Rattle.link_trait.specs.Spawners.{SpawnerView, discarded, not_started}
 use Rattle.system_core.specs.Promises.{IsHandedOut}
 use Rattle.round_laws.specs.Rounds.{AllLive}
 use Rattle.hub_laws.proofs.HubGave.{some_same, turn_by}
@@ -31,7 +31,7 @@ use Rattle.budget_laws.specs.KeptFacts.{KeepsAll}
 use Rattle.budget_laws.proofs.AllKept.{event_keeps_all, give_first_spent}
 use Rattle.driver_laws.specs.Seats.{Fits, IsLinked, IsMissing}
 use Rattle.driver_laws.specs.Turns.{GoesOn, IsOver, IsReply, IsTurn, Leads, Reply, answers, gives_up, is_lost, reply_events, rests, stays_away, wants, work_left, works}
-use Rattle.driver_laws.proofs.Fitting.{IsCause, gave_fits, lost_fits, wants_fits}
+use Rattle.driver_laws.proofs.Fitting.{IsCause, gave_fits, lost_fits, not_started_fits, wants_fits}
 use Rattle.driver_laws.proofs.Work.{joined_less, lost_less, order_same_work, taken_less}
 
 -- ---- a reason to stop that is kept
@@ -222,3 +222,14 @@ refused_same g t i answer foreign is refused = is ∙ ap (state_taken g i) refus
 -- an event after the same state leads to the same state
 pub after_same : (g h t : SystemState) (e : Event) → h ≡ g → t ≡ state_after h e → t ≡ state_after g e
 after_same g h t e same is = is ∙ ap (λ (u : SystemState). state_after u e) same
+
+-- ---- a start that gave no link
+
+module _ (s t : SystemState) (i : ℕ) (kept : KeepsAll s) (free : s.hub.halt ≡ None) (p q : SpawnerView) (fit : IsMissing s i p) (back : q ≡ not_started p q.faults) where
+  -- it was refused
+  pub refused_start_fits : t ≡ state_after s (halt i NoReplacement) → HasRisen p.faults q.faults → IsMissing t i q
+  refused_start_fits is risen = rw (is ∙ halted_is s i NoReplacement free, back) (not_started_fits s i q.faults (why.NoReplacement i) p kept free fit (λ named. omega (arith, risen)))
+
+  -- memory was wanting
+  pub wanting_start_fits : t ≡ state_after s (halt i Memory) → IsMissing t i q
+  wanting_start_fits is = rw (is ∙ halted_is s i Memory free, back) (not_started_fits s i q.faults why.Memory p kept free fit (λ named. absurd (cc named)))

@@ -1,11 +1,11 @@
-use Rattle.std.proofs.Common.{◌∙◌, ap, sym}
+use Rattle.std.proofs.Common.{◌∙◌, Err, ap, sym}
 use Rattle.px_base.specs.declared.graph.Part.{Part}
 use Rattle.hub_terms.specs.declared.stops.Halt.TheVariants as halt
 use Rattle.hub_terms.specs.Hubs.{worker_count}
 use Rattle.hub_terms.specs.Systems.{part_at}
 use Rattle.driver_laws.proofs.Parts.{entry_inside, entry_is, part_can_start}
-use Rattle.driver_laws.proofs.Fitting.{few_starts, joined_fits}
-use Rattle.driver_laws.proofs.Moves.{joined_goes_on, not_started_turn}
+use Rattle.driver_laws.proofs.Fitting.{can_start, joined_fits}
+use Rattle.driver_laws.proofs.Moves.{joined_goes_on, not_started_turn, refused_start_fits, wanting_start_fits}
 use Rattle.supervisor.proofs.turns.start_at.Goals as goal
 
 pub bounds-as_slice-i : goal.bounds-as_slice-i
@@ -21,7 +21,7 @@ start-requires-clause-can g c = part_can_start c.args.system.now c.args.i c.args
     (entry_is c.as_slice.result.now (worker_count c.args.system.now.hub) c.args.i (part_at c.args.system.now) c.index-as_slice-i.result (c.as_slice.ensures ∙ c.requires.team.parts) c.requires.inside c.index-as_slice-i.is) c.requires.team.core
 
 pub start-requires-clause-few : goal.start-requires-clause-few
-start-requires-clause-few g c = few_starts c.args.system.now c.args.i (g.S.Spawner.shown c.args.spawner.now) c.known.ensures.facts c.requires.free c.requires.fits.counts
+start-requires-clause-few g c = can_start c.args.system.now c.args.i (g.S.Spawner.shown c.args.spawner.now) c.known.ensures.facts c.requires.fits.counts
 
 pub returns-in-Ok-clause-fits : goal.returns-in-Ok-clause-fits
 returns-in-Ok-clause-fits g c = rw c.joined.ensures.joined
@@ -37,3 +37,11 @@ returns-in-Err-Refused-clause-turn g c = not_started_turn c.args.system.now c.ha
 
 pub returns-in-Err-Memory-clause-turn : goal.returns-in-Err-Memory-clause-turn
 returns-in-Err-Memory-clause-turn g c = not_started_turn c.args.system.now c.halt-in-Err-Memory.new.self c.args.i halt.Memory c.requires.inside c.requires.free c.requires.idle c.halt-in-Err-Memory.ensures.halted c.requires.fits.missing
+
+pub returns-in-Err-Refused-clause-fits : goal.returns-in-Err-Refused-clause-fits
+returns-in-Err-Refused-clause-fits g c = rw c.requires.none (refused_start_fits c.args.system.now c.halt.new.self c.args.i c.known.ensures.facts c.requires.free (g.S.Spawner.shown c.args.spawner.now) (g.S.Spawner.shown c.start.new.self)
+    c.requires.fits c.in-Err-Refused.ensures.err c.halt.ensures.halted (c.in-Err-Refused.ensures.refused (ap Err c.in-Err-Refused.field-0-is)))
+
+pub returns-in-Err-Memory-clause-fits : goal.returns-in-Err-Memory-clause-fits
+returns-in-Err-Memory-clause-fits g c = rw c.requires.none (wanting_start_fits c.args.system.now c.halt-in-Err-Memory.new.self c.args.i c.known.ensures.facts c.requires.free (g.S.Spawner.shown c.args.spawner.now) (g.S.Spawner.shown c.start.new.self)
+    c.requires.fits c.in-Err-Memory.ensures.err c.halt-in-Err-Memory.ensures.halted)

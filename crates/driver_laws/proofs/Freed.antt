@@ -119,7 +119,7 @@ module _ (s : SystemState) (keep : Bool) (ps qs : List SpawnerView) (ls : List (
   count_at : (f : SpawnerView → ℕ) (k : ℕ) → k < n → get_or (map f qs) k 0 ≡ f (get_or qs k no_spawner)
   count_at f k below = get_or-map f qs k no_spawner 0 (omega (arith, below, size))
 
-  count_size : (f : SpawnerView → ℕ) → length (map f qs) ≡ n
+  pub count_size : (f : SpawnerView → ℕ) → length (map f qs) ≡ n
   count_size f = length-map qs f ∙ size
 
   pub ends_at : (k : ℕ) → k < n → HasRisenBy (ended_count (naming k losses)) 0 (get_or (map (λ (q : SpawnerView). q.ends) qs) k 0)

@@ -10,3 +10,4 @@ pub mod Opening
 pub mod Counted
 pub mod Freed
 pub mod Kept
+pub mod Ended

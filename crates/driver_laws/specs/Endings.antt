@@ -113,7 +113,7 @@ HasStopped job old new stop.Memory = new.retired ≡ old.retired
 
 -- the outcome is the one that the state has come to; memory may be wanting for it
 abbrev pub IsOutcome : SystemState → Result Finished Stop → Type 0
-IsOutcome s (Ok finished) = (s.hub.halt ≡ None) × (finished.values ≡ reported_values s.hub) × (finished.losses ≡ s.hub.members.losses)
+IsOutcome s (Ok finished) = (s.hub.halt ≡ None) × (finished.values ≡ reported_values s.hub) × IsValueList (length s.job.rows) finished.values × (finished.losses ≡ s.hub.members.losses)
 IsOutcome s (Err (stop.NoReplacement worker)) = s.hub.halt ≡ Some (why.NoReplacement worker)
 IsOutcome s (Err (stop.TooManyLosses losses)) = (s.hub.halt ≡ Some why.TooManyLosses) × (losses ≡ s.hub.members.losses)
 IsOutcome s (Err (stop.Budget base)) = (s.hub.halt ≡ Some why.Budget) × (base ≡ s.hub.members.base)

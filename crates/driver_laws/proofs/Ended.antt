@@ -28,7 +28,7 @@ use Rattle.round_laws.specs.Rounds.{AllLive}
 use Rattle.budget_laws.specs.KeptFacts.{KeepsAll}
 use Rattle.link_trait.specs.Counts.{HasRisen, all_more_by, more_by}
 use Rattle.link_trait.specs.Links.{LinkView}
-use Rattle.link_trait.specs.Nurseries.{NurseryView, IsLent, IsTakenBack}
+use Rattle.link_trait.specs.Nurseries.{NurseryView, AreBack, IsLent, IsTakenBack}
 use Rattle.link_trait.specs.Spawners.{Retired, SpawnerView}
 use Rattle.link_trait.proofs.Counting.{more_at, same_at, sum_more}
 use Rattle.driver_laws.specs.declared.job.Job.{Job}
@@ -36,10 +36,10 @@ use Rattle.driver_laws.specs.declared.endings.Finished.{Finished}
 use Rattle.driver_laws.specs.declared.endings.Stop.{Stop}
 use Rattle.driver_laws.specs.declared.endings.Stop.TheVariants as stop
 use Rattle.driver_laws.specs.Jobs.{IsSoundJob, job_part, vertices}
-use Rattle.driver_laws.specs.Seats.{HasRisenBy, IsInTune, ended_count, naming}
+use Rattle.driver_laws.specs.Seats.{HasRisenBy, IsInTune, ended_count, marks_of, naming}
 use Rattle.driver_laws.specs.Turns.{IsOver, IsSameRun}
 use Rattle.driver_laws.specs.Endings.{AreLosses, AreOfParts, HasStopped, HaveReported, IsBack, IsFinished, IsOutcome, IsRefused, IsSpent, IsTooMany, NoneFell, keeps_links, retired_since}
-use Rattle.driver_laws.proofs.Freed.{AreReleased, all_starts, count_size, ends_at, faults_at, few_starts, loss_kinds, loss_workers, most_starts, size}
+use Rattle.driver_laws.proofs.Freed.{AreReleased, all_starts, are_back, count_size, ends_at, faults_at, few_starts, loss_kinds, loss_workers, most_starts, size}
 use Rattle.driver_laws.proofs.Kept.{links_in_order, links_masters, links_reported, links_rounds, links_worlds, none_retired}
 use Rattle.driver_laws.proofs.Opening.{blocks_count}
 
@@ -79,19 +79,31 @@ never_fell xs ys fits k = elim (cases_lt k (length ys)) [
 
 -- ---- a run that was begun
 
--- what is known once all spawners went back
-pub record IsAtEnd (job : Job) (old lent new : NurseryView) (s : SystemState) (ps qs : List SpawnerView) (ls : List (Option LinkView)) (all : List SpawnerView) (keep : Bool) : Type 0 where
+-- what is known once all links were taken back
+pub record IsEnding (job : Job) (old lent : NurseryView) (s : SystemState) (ps qs : List SpawnerView) (ls : List (Option LinkView)) (all : List SpawnerView) (keep : Bool) : Type 0 where
   pub sound : IsSoundJob job
   pub few : sum old.starts < 2 ^ 62
   pub lends : IsLent old lent job.workers all
-  pub back : IsTakenBack lent new qs
+  pub marks : marks_of ps ≡ marks_of all
   pub kept : KeepsAll s
   pub over : IsOver s
   pub run : IsSameRun (opening_system (block_cuts (vertices job) job.workers) job.limits old.tells (job_of job.graph job.core job.starts)) s
   pub tune : IsInTune s ps ls
   pub free : AreReleased keep ps ls qs
 
-module _ (job : Job) (old lent new : NurseryView) (s : SystemState) (ps qs : List SpawnerView) (ls : List (Option LinkView)) (all : List SpawnerView) (keep : Bool) (end : IsAtEnd job old lent new s ps qs ls all keep) where
+-- the run is still the one that was opened
+pub begun_run : (s t : SystemState) (ends : List ℕ) (limits : Limits) (told tells : Bool) (job : jobs.Job) → s ≡ opening_system ends limits told job → told ≡ tells → IsSameRun s t → IsSameRun (opening_system ends limits tells job) t
+begun_run s t ends limits told tells job opens same run = rw (← same, ← opens) run
+
+module _ (job : Job) (old lent : NurseryView) (s : SystemState) (ps qs : List SpawnerView) (ls : List (Option LinkView)) (all : List SpawnerView) (keep : Bool) (end : IsEnding job old lent s ps qs ls all keep) where
+  count : worker_count s.hub ≡ job.workers
+  count = ap part_count end.run.cuts ∙ blocks_count (vertices job) job.workers
+
+  -- the spawners can go back
+  pub goes_back : AreBack lent qs
+  goes_back = are_back s keep ps qs ls job.workers end.tune count end.free old lent all end.lends end.marks
+
+module _ (job : Job) (old lent new : NurseryView) (s : SystemState) (ps qs : List SpawnerView) (ls : List (Option LinkView)) (all : List SpawnerView) (keep : Bool) (end : IsEnding job old lent s ps qs ls all keep) (back : IsTakenBack lent new qs) where
   workers : worker_count s.hub ≡ job.workers
   workers = ap part_count end.run.cuts ∙ blocks_count (vertices job) job.workers
 
@@ -104,13 +116,13 @@ module _ (job : Job) (old lent new : NurseryView) (s : SystemState) (ps qs : Lis
   counts f g same came = came ∙ ap (λ (xs : List ℕ). all_more_by xs (map g qs)) same
 
   starts_are : new.starts ≡ all_more_by old.starts (map (λ (q : SpawnerView). q.starts) qs)
-  starts_are = counts (λ (v : NurseryView). v.starts) (λ (q : SpawnerView). q.starts) (ap (λ (v : NurseryView). v.starts) end.lends.nursery) (ap (λ (v : NurseryView). v.starts) end.back.nursery)
+  starts_are = counts (λ (v : NurseryView). v.starts) (λ (q : SpawnerView). q.starts) (ap (λ (v : NurseryView). v.starts) end.lends.nursery) (ap (λ (v : NurseryView). v.starts) back.nursery)
 
   faults_are : new.faults ≡ all_more_by old.faults (map (λ (q : SpawnerView). q.faults) qs)
-  faults_are = counts (λ (v : NurseryView). v.faults) (λ (q : SpawnerView). q.faults) (ap (λ (v : NurseryView). v.faults) end.lends.nursery) (ap (λ (v : NurseryView). v.faults) end.back.nursery)
+  faults_are = counts (λ (v : NurseryView). v.faults) (λ (q : SpawnerView). q.faults) (ap (λ (v : NurseryView). v.faults) end.lends.nursery) (ap (λ (v : NurseryView). v.faults) back.nursery)
 
   ends_are : new.ends ≡ all_more_by old.ends (map (λ (q : SpawnerView). q.ends) qs)
-  ends_are = counts (λ (v : NurseryView). v.ends) (λ (q : SpawnerView). q.ends) (ap (λ (v : NurseryView). v.ends) end.lends.nursery) (ap (λ (v : NurseryView). v.ends) end.back.nursery)
+  ends_are = counts (λ (v : NurseryView). v.ends) (λ (q : SpawnerView). q.ends) (ap (λ (v : NurseryView). v.ends) end.lends.nursery) (ap (λ (v : NurseryView). v.ends) back.nursery)
 
   -- there are as many counts as 64 workers have
   places : (f : SpawnerView → ℕ) → length (map f qs) ≤ 64
@@ -126,7 +138,7 @@ module _ (job : Job) (old lent new : NurseryView) (s : SystemState) (ps qs : Lis
   end_places = ap length (sym (ap (λ (v : NurseryView). v.ends) end.lends.nursery)) ∙ end.lends.one_each.ends
 
   retired_are : new.retired ≡ old.retired ++ since
-  retired_are = ap (λ (v : NurseryView). v.retired) end.back.nursery ∙ ap (λ (rs : List Retired). rs ++ since) (ap (λ (v : NurseryView). v.retired) end.lends.nursery)
+  retired_are = ap (λ (v : NurseryView). v.retired) back.nursery ∙ ap (λ (rs : List Retired). rs ++ since) (ap (λ (v : NurseryView). v.retired) end.lends.nursery)
 
   since_is : retired_since old new ≡ since
   since_is = ap (drop (length old.retired)) retired_are ∙ drop-append_seam old.retired since
@@ -139,9 +151,9 @@ module _ (job : Job) (old lent new : NurseryView) (s : SystemState) (ps qs : Lis
 
   pub is_back : IsBack old new
   is_back = record {
-    lent = ap (λ (v : NurseryView). v.lent) end.back.nursery;
-    plan = ap (λ (v : NurseryView). v.plan) end.back.nursery ∙ ap (λ (v : NurseryView). v.plan) end.lends.nursery;
-    tells = ap (λ (v : NurseryView). v.tells) end.back.nursery ∙ ap (λ (v : NurseryView). v.tells) end.lends.nursery;
+    lent = ap (λ (v : NurseryView). v.lent) back.nursery;
+    plan = ap (λ (v : NurseryView). v.plan) back.nursery ∙ ap (λ (v : NurseryView). v.plan) end.lends.nursery;
+    tells = ap (λ (v : NurseryView). v.tells) back.nursery ∙ ap (λ (v : NurseryView). v.tells) end.lends.nursery;
     starts = subst (NoneFell old.starts) (sym starts_are) (never_fell old.starts (map (λ (q : SpawnerView). q.starts) qs) (omega (arith, places (λ (q : SpawnerView). q.starts), start_places)));
     faults = subst (NoneFell old.faults) (sym faults_are) (never_fell old.faults (map (λ (q : SpawnerView). q.faults) qs) (omega (arith, places (λ (q : SpawnerView). q.faults), fault_places)));
     ends = subst (NoneFell old.ends) (sym ends_are) (never_fell old.ends (map (λ (q : SpawnerView). q.ends) qs) (omega (arith, places (λ (q : SpawnerView). q.ends), end_places)));

@@ -152,3 +152,16 @@ module _ (s : SystemState) (keep : Bool) (ps qs : List SpawnerView) (ls : List (
   all_starts kept none live = sum_by_each (λ (k : ℕ). length (naming k losses) + 1) starts (λ k below.
       let here : k < n = omega (arith, below, count_size (λ (q : SpawnerView). q.starts)) in
       count_at (λ (q : SpawnerView). q.starts) k here ∙ rw (live k (omega (arith, here, workers))) at ((freed_at k no_spawner here).counts.starts none)) ∙ total_is kept
+
+-- ---- over what they are views of
+
+module _ {A : Type 0} (f : A → SpawnerView) (xs : List A) (ls : List (Option LinkView)) where
+  pub links_own : (s : SystemState) → IsInTune s (map f xs) ls → (k : ℕ) (p : SpawnerView) → k < length xs → MatchOption (get_or ls k None) ⊤ (IsLinkOf (get_or (map f xs) k p))
+  links_own s tune k p below = own_link s k (get_or (map f xs) k p) (get_or ls k None) (tune.each k (omega (arith, below, tune.spawner_count, length-map xs f)) p)
+
+  pub are_released : (keep : Bool) (ys : List A) → length ys ≡ length xs → ((k : ℕ) (p : SpawnerView) → k < length xs → get_or (map f ys) k p ≡ released keep (get_or (map f xs) k p) (get_or ls k None)) →
+      AreReleased keep (map f xs) ls (map f ys)
+  are_released keep ys count each = record {
+    count = length-map ys f ∙ (count ∙ sym (length-map xs f));
+    each = λ k p below. each k p (omega (arith, below, length-map xs f));
+  }

@@ -78,3 +78,10 @@ module _ (s : SystemState) (ends : List ℕ) (limits : Limits) (told : Bool) (jo
 
 pub blocks_count : (n workers : ℕ) → part_count (block_cuts n workers) ≡ workers
 blocks_count n workers = omega (arith, length_by_position (workers + 1) (λ (k : ℕ). k * n / workers))
+
+-- the same for the cuts of a job
+pub job_tune : (s : SystemState) (vertices workers : ℕ) (limits : Limits) (told : Bool) (job : Job) (old lent : NurseryView) (all : List SpawnerView) {L : Type 0} (h : L → LinkView) (ls : List (Option L)) →
+    s ≡ opening_system (block_cuts vertices workers) limits told job → IsLent old lent workers all → told ≡ old.tells → ls ≡ replicate workers None → IsInTune s all (map (option_map h) ls)
+job_tune s vertices workers limits told job old lent all h ls opens lends tells none =
+    opening_tune s (block_cuts vertices workers) limits told job opens old lent all (subst (λ (n : ℕ). IsLent old lent n all) (sym (blocks_count vertices workers)) lends) tells h ls
+    (none ∙ ap (λ (n : ℕ). replicate n None) (sym (blocks_count vertices workers)))

@@ -1,5 +1,6 @@
 //! How a run has ended.
-ghost use Rattle.std.specs.Prelude.{◌≡◌, true, IfOk};
+ghost use Rattle.std.specs.Prelude.{◌≡◌, true, length, IfOk};
+ghost use Rattle.px_base.specs.Values.{IsValueList};
 ghost use Rattle.hub_terms.specs.Hubs.{all_reported, reported_values};
 ghost use Rattle.driver_laws.specs.Endings.{IsOutcome, keeps_links};
 ghost use Rattle.driver_laws.specs.Turns.{IsOver};
@@ -27,6 +28,7 @@ fn copied_losses(alloc: Global, system: &System) -> Result<Items<Loss>, Memory>
 fn finished(alloc: Global, system: &System) -> Result<Finished, Memory>
     requires { all_reported system.now.hub ≡ true }
     ensures values { IfOk result (λ finished. finished.values ≡ reported_values system.now.hub) }
+    ensures one_each { IfOk result (λ finished. IsValueList (length system.now.job.rows) finished.values) }
     ensures losses { IfOk result (λ finished. finished.losses ≡ system.now.hub.members.losses) }
 {
     let values = Items::from_vec(system.values().to_vec(alloc)?);

@@ -48,6 +48,7 @@ pub fn supervise_serial<N: Nursery, R: Threads + Wait + Sync>(
         return Err(Stop::Memory);
     };
     rounds(rt, &team, &mut system, &mut spawners, &mut links);
+    system.known();
     let outcome = outcome_of(alloc, &system);
     release_all(keeps_links(&outcome), &mut spawners, &mut links);
     nursery.take_back(spawners);

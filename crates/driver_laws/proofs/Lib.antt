@@ -1,0 +1,13 @@
+pub mod Stays
+pub mod Fitting
+pub mod Taking
+pub mod Work
+pub mod Moves
+pub mod Parts
+pub mod Tune
+pub mod Release
+pub mod Opening
+pub mod Counted
+pub mod Freed
+pub mod Kept
+pub mod Ended

@@ -1,0 +1,4 @@
+pub mod Jobs
+pub mod Turns
+pub mod Seats
+pub mod Endings

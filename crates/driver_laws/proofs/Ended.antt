@@ -28,7 +28,7 @@ use Rattle.round_laws.specs.Rounds.{AllLive}
 use Rattle.budget_laws.specs.KeptFacts.{KeepsAll}
 use Rattle.link_trait.specs.Counts.{HasRisen, all_more_by, more_by}
 use Rattle.link_trait.specs.Links.{LinkView}
-use Rattle.link_trait.specs.Nurseries.{NurseryView, AreBack, IsLent, IsTakenBack}
+use Rattle.link_trait.specs.Nurseries.{with_room, NurseryView, AreBack, IsLent, IsTakenBack}
 use Rattle.link_trait.specs.Spawners.{Retired, SpawnerView}
 use Rattle.link_trait.proofs.Counting.{more_at, same_at, sum_more}
 use Rattle.driver_laws.specs.declared.job.Job.{Job}
@@ -64,6 +64,10 @@ unbegun old new lent plan tells starts faults ends same = record {
     none_since : (xs : List Retired) → drop (length xs) xs ≡ []
     none_since [] = refl
     none_since (x ∷ xs) = none_since xs
+
+-- nothing was lent, and the nursery has kept all but its room
+pub not_lent : (old new : NurseryView) (room : ℕ) → old.lent ≡ false → new ≡ with_room old room → IsBack old new
+not_lent old new room none is = rw is (unbegun old (with_room old room) none refl refl refl refl refl refl)
 
 -- ---- counts that came back
 

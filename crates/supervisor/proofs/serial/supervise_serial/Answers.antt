@@ -9,7 +9,7 @@ use Rattle.driver_laws.specs.declared.endings.Stop.{Stop}
 use Rattle.driver_laws.specs.Endings.{HasStopped, IsFinished, IsOutcome, keeps_links}
 use Rattle.driver_laws.specs.Jobs.{vertices}
 use Rattle.driver_laws.specs.Turns.{IsSameRun}
-use Rattle.driver_laws.proofs.Ended.{IsEnding, begun_run, goes_back, has_stopped, is_back, is_finished}
+use Rattle.driver_laws.proofs.Ended.{IsEnding, begun_run, goes_back, has_stopped, is_back, is_finished, not_lent}
 use Rattle.driver_laws.proofs.Freed.{are_back, are_released, links_own}
 use Rattle.driver_laws.proofs.Opening.{blocks_count, job_tune}
 use Rattle.supervisor.proofs.serial.supervise_serial.Goals as goal
@@ -83,3 +83,6 @@ returns-clause-stopped g c = by_result c.outcome_of-outcome.result c.outcome_of-
 pub returns-clause-back : goal.returns-clause-back
 returns-clause-back g c = is_back c.args.job.now (g.N.Nursery.shown c.args.nursery.now) (g.N.Nursery.shown c.lend.new.self) (g.N.Nursery.shown c.take_back.new.self) c.rounds.new.system (map g.N.S.Spawner.shown c.rounds.new.spawners.items)
         (map g.N.S.Spawner.shown c.release_all.new.spawners.items) (map (option_map g.N.S.L.Link.shown) c.rounds.new.links.items) (map g.N.S.Spawner.shown c.in-Ok-lend.spawners.items) c.keeps_links.result (ended g c) c.take_back.ensures
+
+pub returns-in_default-lend-clause-back : goal.returns-in_default-lend-clause-back
+returns-in_default-lend-clause-back g c = not_lent (g.N.Nursery.shown c.args.nursery.now) (g.N.Nursery.shown c.lend.new.self) _ c.requires.none_lent c.in_default-lend.ensures.err

@@ -1,13 +1,11 @@
 -- Spawners that tell nothing, as they are lent.
-use Rattle.std.proofs.Common.{◌≡◌, ◌∙◌, ℕ, ◌+◌, ◌-◌, false, None, List, [], ◌∷◌, ◌++◌, length, map, refl, sym, ap, ap₂, subst, append-nil}
+use Rattle.std.proofs.Common.{◌≡◌, ◌∙◌, ℕ, ◌+◌, ◌-◌, false, None, List, [], ◌∷◌, ◌++◌, length, map, refl, sym, ap, ap₂, append-nil}
 use Rattle.std.specs.Prelude.{All, flat_map}
 use Rattle.std.proofs.lemmas.List.Elements.{All-head, All-tail}
 use Rattle.link_trait.specs.Counts.{all_more_by}
-use Rattle.std.proofs.lemmas.List.{length-map}
-use Rattle.std.proofs.lemmas.List.FromFn.{length-range_with_len}
-use Rattle.link_trait.specs.Nurseries.{NurseryView, AreBack, IsTakenBack}
+use Rattle.link_trait.specs.Nurseries.{NurseryView, IsTakenBack}
 use Rattle.link_trait.specs.Spawners.{SpawnerView}
-use Rattle.px_base.specs.Values.{by_position, positions_below}
+use Rattle.px_base.specs.Values.{by_position}
 use Rattle.px_base.proofs.Positions.{by_position_more}
 use Rattle.link_calls.specs.Silent.{no_plan, one_mark}
 
@@ -23,12 +21,6 @@ lent_more k all now s pushed is its = pushed ∙ (ap₂ (λ (xs : List SpawnerVi
 pub shown_same : (xs : List SpawnerView) → map (λ (s : SpawnerView). s) xs ≡ xs
 shown_same [] = refl
 shown_same (x ∷ xs) = ap (λ (rest : List SpawnerView). x ∷ rest) (shown_same xs)
-
--- as many come back as were lent
-pub how_many : (n : NurseryView) (all : List SpawnerView) → AreBack n (map (λ (s : SpawnerView). s) all) → length all ≡ n.count
-how_many n all back =
-    let is : map (λ (s : SpawnerView). s.worker) all ≡ positions_below n.count = subst (λ (xs : List SpawnerView). map (λ (s : SpawnerView). s.worker) xs ≡ positions_below n.count) (shown_same all) back.in_order in
-    sym (length-map all (λ (s : SpawnerView). s.worker)) ∙ (ap (λ (ws : List ℕ). length ws) is ∙ length-range_with_len 0 n.count)
 
 nothing_kept : (all : List SpawnerView) → All (λ s. s.retired ≡ []) all → flat_map (λ s. s.retired) all ≡ []
 nothing_kept [] none = refl

@@ -1,29 +1,12 @@
 -- The counts of spawners that come back one after another.
-use Rattle.std.proofs.Common.{◌≡◌, ◌∙◌, ℕ, zero, suc, ◌+◌, ◌<◌, ◌≤◌, List, [], ◌∷◌, ◌++◌, length, map, take, drop, set, refl, sym, ap, subst, arith}
+use Rattle.std.proofs.Common.{◌≡◌, ◌∙◌, ℕ, ◌+◌, ◌<◌, ◌≤◌, List, [], ◌∷◌, ◌++◌, length, map, take, drop, set, sym, ap, subst, arith}
 use Rattle.std.specs.Prelude.{All, slice_index}
 use Rattle.std.proofs.lemmas.List.Elements.{All-push}
 use Rattle.std.proofs.lemmas.List.{length-map, map-append}
-use Rattle.partitioner.proofs.Moved.{one_more}
 use Rattle.link_trait.specs.Counts.{more_by, all_more_by}
 use Rattle.link_trait.specs.Spawners.{SpawnerView}
-use Rattle.link_trait.proofs.Counting.{length_more, more_push}
-
-room_left : (n : ℕ) (all next : List SpawnerView) (x : SpawnerView) → drop n all ≡ x ∷ next → n < length all
-room_left zero [] next x h = absurd (cc h)
-room_left zero (y ∷ ys) next x h = omega arith
-room_left (suc n) [] next x h = absurd (cc h)
-room_left (suc n) (y ∷ ys) next x h = omega (arith, room_left n ys next x h)
-
-length_front : (n : ℕ) (all : List SpawnerView) → n ≤ length all → length (take n all) ≡ n
-length_front zero all within = refl
-length_front (suc n) [] within = absurd (omega (arith, within))
-length_front (suc n) (y ∷ ys) within = ap (λ (m : ℕ). suc m) (length_front n ys (omega (arith, within)))
-
-pub all_of_them : (n : ℕ) (all : List SpawnerView) → drop n all ≡ [] → n ≤ length all → (take n all ≡ all) × (n ≡ length all)
-all_of_them zero [] h within = (refl, refl)
-all_of_them zero (y ∷ ys) h within = absurd (cc h)
-all_of_them (suc n) [] h within = absurd (omega (arith, within))
-all_of_them (suc n) (y ∷ ys) h within = let rest = all_of_them n ys h (omega (arith, within)) in (ap (λ zs. y ∷ zs) rest.0, ap (λ (m : ℕ). suc m) rest.1)
+use Rattle.link_trait.proofs.Fronts.{back_less, front_more, length_front, room_left}
+use Rattle.link_trait.proofs.Counting.{more_push}
 
 -- one kind of count, once the first k have been added
 abbrev pub added : (f : SpawnerView → ℕ) → ℕ → List SpawnerView → List ℕ → List ℕ
@@ -48,10 +31,10 @@ added_more : (f : SpawnerView → ℕ) (k : ℕ) (all next : List SpawnerView) (
 added_more f k all next s before now h fits is =
     let low : k < length all = room_left k all next s h in
     let size : length (map f (take k all)) ≡ k = length-map (take k all) f ∙ length_front k all (omega (arith, low)) in
-    let front : take k all ++ s ∷ [] ≡ take (k + 1) all = (one_more k all (take k all) (drop k all) next s (record { taken = refl; left = refl }) h).taken in
+    let front : take k all ++ s ∷ [] ≡ take (k + 1) all = sym (front_more k all next s h) in
     let pushed : all_more_by before (map f (take k all) ++ f s ∷ []) ≡ set (all_more_by before (map f (take k all))) k (more_by (slice_index (all_more_by before (map f (take k all))) k) (f s)) =
-        subst (λ (n : ℕ). all_more_by before (map f (take k all) ++ f s ∷ []) ≡ set (all_more_by before (map f (take k all))) n (more_by (slice_index (all_more_by before (map f (take k all))) n) (f s))) size
-        (more_push before (map f (take k all)) (f s) (omega (arith, size, low, fits))) in
+    subst (λ (n : ℕ). all_more_by before (map f (take k all) ++ f s ∷ []) ≡ set (all_more_by before (map f (take k all))) n (more_by (slice_index (all_more_by before (map f (take k all))) n) (f s))) size
+    (more_push before (map f (take k all)) (f s) (omega (arith, size, low, fits))) in
     ap (λ (xs : List ℕ). set xs k (more_by (slice_index xs k) (f s))) is
     ∙ (sym pushed ∙ ap (all_more_by before) (sym (map-append f (take k all) (s ∷ [])) ∙ ap (map f) front))
 
@@ -67,9 +50,9 @@ module _ (all : List SpawnerView) (starts faults ends : List ℕ) where
       let h : drop k all ≡ s ∷ next = sym so_far.left ∙ is in
       record {
         within = omega (arith, room_left k all next s h);
-        left = (one_more k all (take k all) (drop k all) next s (record { taken = refl; left = refl }) h).left;
+        left = back_less k all next s h;
         by_starts = rw e (added_more (λ (s : SpawnerView). s.starts) k all next s starts a h l so_far.by_starts);
         by_faults = rw f (added_more (λ (s : SpawnerView). s.faults) k all next s faults b h m so_far.by_faults);
         by_ends = rw g (added_more (λ (s : SpawnerView). s.ends) k all next s ends c h n so_far.by_ends);
-        nothing = subst (All KeptNothing) (one_more k all (take k all) (drop k all) next s (record { taken = refl; left = refl }) h).taken (All-push KeptNothing (take k all) s so_far.nothing none);
+        nothing = subst (All KeptNothing) (sym (front_more k all next s h)) (All-push KeptNothing (take k all) s so_far.nothing none);
       }

@@ -1,5 +1,5 @@
 -- A nursery that hands on answers and tells nothing, as contracts see it.
-use Rattle.std.specs.Prelude.{◌≡◌, ℕ, Bool, true, false, List, [], All, if◌then◌else◌, Option, Some, None}
+use Rattle.std.specs.Prelude.{false, List, [], All, if◌then◌else◌, Some, None}
 use Rattle.px_base.specs.declared.wire.Answer.{Answer}
 use Rattle.hub_terms.specs.Systems.{AnswersValues}
 use Rattle.link_trait.specs.Plans.{Plan, LentAs, LinkMark}

@@ -1,14 +1,14 @@
-use Rattle.std.proofs.Common.{◌<◌, ◌≤◌, ◌+◌, ◌∙◌, ap, arith, length, subst, sym}
+use Rattle.std.proofs.Common.{◌≤◌, ◌+◌, ◌∙◌, ap, arith, subst, sym}
 use Rattle.std.proofs.lemmas.List.Elements.{All-set, All-weaker}
 use Rattle.memory_nursery.specs.States.{SpawnerState}
-use Rattle.link_calls.proofs.Homes.{count_is, home_again}
+use Rattle.link_trait.proofs.Lent.{count_is, home_again}
 use Rattle.link_calls.proofs.memory_tests.lend_for.Goals as goal
 
 pub loop-worker-preserved : goal.loop-worker-preserved
 loop-worker-preserved g c =
     let size = count_is (λ (s : SpawnerState). s.spawner) _ c.loop-worker.spawners.items c.loop-worker.invariant.back in
     let old : c.index_mut.result.now.spawner.starts ≤ c.loop-worker.worker-index = subst (λ (s : SpawnerState). s.spawner.starts ≤ c.loop-worker.worker-index) (sym c.index_mut.ensures.value)
-        (c.loop-worker.invariant.few _ c.index_mut.result.now (omega (arith, size, c.loop-worker.invariant.count, c.if-worker-ge2.false))) in
+    (c.loop-worker.invariant.few _ c.index_mut.result.now (omega (arith, size, c.loop-worker.invariant.count, c.if-worker-ge2.false))) in
     record {
       back = home_again (λ (s : SpawnerState). s.spawner) _ c.loop-worker.spawners.items c.loop-worker.invariant.back _ c.live.new.spawner c.index_mut.result.now
           (omega (arith, size, c.loop-worker.invariant.count, c.if-worker-ge2.false))

@@ -1,8 +1,5 @@
-use Rattle.std.proofs.Common.{◌∙◌, ap, sym, subst, List}
 use Rattle.std.proofs.lemmas.List.Elements.{All-nil}
-use Rattle.px_base.specs.declared.wire.Answer.{Answer}
 use Rattle.hub_terms.specs.Systems.{AnswersValues}
-use Rattle.link_calls.specs.Silent.{CarryValues}
 use Rattle.link_calls.proofs.Lending.{lent_more}
 use Rattle.link_calls.proofs.silent.SilentNurseryNursery.lend.Goals as goal
 

@@ -1,5 +1,5 @@
 -- A nursery that hands on answers and tells nothing, as contracts see it.
-use Rattle.std.specs.Prelude.{◌≡◌, ℕ, Bool, true, false, List, [], All, if◌then◌else◌, Option, Some, None}
+use Rattle.std.specs.Prelude.{false, List, [], All, if◌then◌else◌, Some, None}
 use Rattle.px_base.specs.declared.wire.Answer.{Answer}
 use Rattle.hub_terms.specs.Systems.{AnswersValues}
 use Rattle.link_trait.specs.Plans.{Plan, LentAs, LinkMark}
@@ -28,7 +28,7 @@ CarryValues answers = All AnswersValues answers
 
 -- what a link's fields mean
 abbrev pub link_view : link.Inside → LinkView
-link_view l = record { worker = l.worker; mark = link_mark; peer = None; calls = 0; reports = 0; alive = l.alive; ends = l.ends }
+link_view l = record { worker = l.worker; mark = link_mark; peer = None; calls = 0; reports = 0; alive = l.alive; ends = l.ends; refused = None }
 
 -- what a spawner's fields mean
 abbrev pub spawner_view : spawner.Inside → SpawnerView

@@ -11,8 +11,8 @@ use crate::orders::{report_for, step_for};
 use link_trait::{Link, LinkFault, Spawner, StartFault};
 use memory_nursery::{MemLink, MemSpawner};
 use px_base::{
-    Along, Answer, CoreProgram, Fold, Form, Items, Own, Part, Pos, Program, Read, Reads, Start, TOP,
-    Value, part_fits,
+    Along, Answer, CoreProgram, Fold, Form, Items, Own, Part, Pos, Program, Read, Reads, Start,
+    TOP, Value, part_fits,
 };
 use std::alloc::Global;
 use std::sync::Wait;

@@ -1,5 +1,5 @@
 //! Orders as a hub gives them: the first Step of a worker, and a Report once all is quiet.
-ghost use Rattle.std.specs.Prelude.{◌≡◌, ◌×◌, true, [], All, IfOk, length, ◌≤◌, ◌^◌};
+ghost use Rattle.std.specs.Prelude.{◌≡◌, true, [], All, IfOk, length, ◌≤◌, ◌^◌};
 ghost use Rattle.px_base.specs.Graphs.{RowsFit};
 ghost use Rattle.px_base.specs.Parts.{IsWorkerCuts, part_count};
 ghost use Rattle.list_laws.specs.Routes.{AreRoutes};

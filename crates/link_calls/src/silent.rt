@@ -1,5 +1,6 @@
 //! A nursery whose links hand on answers that came from outside, and tell nothing of their peers.
-ghost use Rattle.std.specs.Prelude.{◌≡◌};
+ghost use Rattle.std.specs.Prelude.{◌≡◌, ◌≤◌, [], All, length, map};
+ghost use Rattle.link_trait.specs.Counts.{all_more_by};
 
 use link_trait::{Link, LinkFault, Nursery, Spawner, StartFault};
 use px_base::{Answer, Broken, CoreProgram, Memory, Part};
@@ -187,12 +188,36 @@ impl SilentSpawner {
         ensures starts { result.starts ≡ self.starts }
         ensures faults { result.faults ≡ self.faults }
         ensures ends { result.ends ≡ self.ends }
+        ensures nothing { self.retired ≡ [] }
     {
         Came {
             starts: self.starts,
             faults: self.faults,
             ends: self.ends,
         }
+    }
+}
+
+/// Adds up what came back with the spawners, the k-th for worker k.
+fn add_all(
+    starts: &mut [u64; 64],
+    faults: &mut [u64; 64],
+    ends: &mut [u64; 64],
+    spawners: Vec<SilentSpawner>,
+)
+    requires { length spawners.items ≤ 64 }
+    ensures starts { starts.new ≡ all_more_by starts.old (map (λ s. s.starts) spawners.items) }
+    ensures faults { faults.new ≡ all_more_by faults.old (map (λ s. s.faults) spawners.items) }
+    ensures ends { ends.new ≡ all_more_by ends.old (map (λ s. s.ends) spawners.items) }
+    ensures nothing { All (λ s. s.retired ≡ []) spawners.items }
+{
+    let mut k = 0;
+    for spawner in spawners {
+        let came = spawner.came();
+        starts[k] = starts[k].saturating_add(came.starts);
+        faults[k] = faults[k].saturating_add(came.faults);
+        ends[k] = ends[k].saturating_add(came.ends);
+        k += 1;
     }
 }
 
@@ -246,15 +271,9 @@ impl Nursery for SilentNursery {
         requires { AreBack self.old (map (λ s. s) spawners.items) }
         ensures { IsTakenBack self.old self.new (map (λ s. s) spawners.items) }
     {
-        let mut k = 0;
-        for spawner in spawners {
-            let came = spawner.came();
-            self.starts[k] = self.starts[k].saturating_add(came.starts);
-            self.faults[k] = self.faults[k].saturating_add(came.faults);
-            self.ends[k] = self.ends[k].saturating_add(came.ends);
-            k += 1;
-        }
-        self.room -= k as u64;
+        let count = spawners.len();
+        add_all(&mut self.starts, &mut self.faults, &mut self.ends, spawners);
+        self.room -= count as u64;
         self.lent = false;
     }
 }

@@ -1,9 +1,10 @@
 -- Spawners that come back one after another.
-use Rattle.std.proofs.Common.{◌≡◌, ◌∙◌, ℕ, zero, suc, ◌+◌, ◌<◌, ◌≤◌, List, [], ◌∷◌, ◌++◌, length, map, take, drop, get_or, set, refl, sym, ap, subst, arith, append_assoc, append-nil, add-one}
+use Rattle.std.proofs.Common.{◌≡◌, ◌∙◌, ℕ, suc, ◌+◌, ◌<◌, ◌≤◌, List, [], ◌∷◌, ◌++◌, length, map, take, drop, get_or, set, refl, sym, ap, subst, arith, append_assoc, append-nil}
 use Rattle.std.specs.Prelude.{All, flat_map}
 use Rattle.std.proofs.lemmas.List.Elements.{All-push, All-nil}
 use Rattle.link_trait.specs.Counts.{more_by, all_more_by}
 use Rattle.link_trait.specs.Spawners.{Retired}
+use Rattle.link_trait.proofs.Fronts.{all_taken as all_taken_is, back_less, front_more, length_front, room_left}
 use Rattle.memory_nursery.specs.States.{SpawnerState}
 use Rattle.memory_nursery.specs.Keeping.{KeepsSpawner}
 use Rattle.memory_nursery.specs.Tallies.{with_spawner, with_spawners}
@@ -37,41 +38,6 @@ one_kind f g each (c ∷ cs) (s ∷ ss) = rw each (ap (λ (rest : List ℕ). mor
 lists_more : (xs ys : List SpawnerState) → flat_map (λ s. s.spawner.retired) (xs ++ ys) ≡ flat_map (λ s. s.spawner.retired) xs ++ flat_map (λ s. s.spawner.retired) ys
 lists_more [] ys = refl
 lists_more (x ∷ xs) ys = ap (λ (rest : List Retired). x.spawner.retired ++ rest) (lists_more xs ys) ∙ sym (append_assoc x.spawner.retired (flat_map (λ (s : SpawnerState). s.spawner.retired) xs) (flat_map (λ (s : SpawnerState). s.spawner.retired) ys))
-
-front_longer : {X : Type 0} (n : ℕ) (all next : List X) (x : X) → drop n all ≡ x ∷ next → take (suc n) all ≡ take n all ++ x ∷ []
-front_longer zero [] next x h = absurd (cc h)
-front_longer zero (y ∷ ys) next x h = cc h
-front_longer (suc n) [] next x h = absurd (cc h)
-front_longer (suc n) (y ∷ ys) next x h = ap (λ zs. y ∷ zs) (front_longer n ys next x h)
-
-back_shorter : {X : Type 0} (n : ℕ) (all next : List X) (x : X) → drop n all ≡ x ∷ next → next ≡ drop (suc n) all
-back_shorter zero [] next x h = absurd (cc h)
-back_shorter zero (y ∷ ys) next x h = cc h
-back_shorter (suc n) [] next x h = absurd (cc h)
-back_shorter (suc n) (y ∷ ys) next x h = back_shorter n ys next x h
-
-front_more : {X : Type 0} (n : ℕ) (all next : List X) (x : X) → drop n all ≡ x ∷ next → take (n + 1) all ≡ take n all ++ x ∷ []
-front_more n all next x h = rw add-one (front_longer n all next x h)
-
-back_less : {X : Type 0} (n : ℕ) (all next : List X) (x : X) → drop n all ≡ x ∷ next → next ≡ drop (n + 1) all
-back_less n all next x h = rw add-one (back_shorter n all next x h)
-
-room_left : {X : Type 0} (n : ℕ) (all next : List X) (x : X) → drop n all ≡ x ∷ next → n < length all
-room_left zero [] next x h = absurd (cc h)
-room_left zero (y ∷ ys) next x h = omega arith
-room_left (suc n) [] next x h = absurd (cc h)
-room_left (suc n) (y ∷ ys) next x h = omega (arith, room_left n ys next x h)
-
-none_after : {X : Type 0} (n : ℕ) (all : List X) → drop n all ≡ [] → n ≤ length all → (take n all ≡ all) × (n ≡ length all)
-none_after zero [] h within = (refl, refl)
-none_after zero (y ∷ ys) h within = absurd (cc h)
-none_after (suc n) [] h within = absurd (omega (arith, within))
-none_after (suc n) (y ∷ ys) h within = let rest = none_after n ys h (omega (arith, within)) in (ap (λ zs. y ∷ zs) rest.0, ap (λ (m : ℕ). suc m) rest.1)
-
-length_front : {X : Type 0} (n : ℕ) (all : List X) → n ≤ length all → length (take n all) ≡ n
-length_front zero all within = refl
-length_front (suc n) [] within = absurd (omega (arith, within))
-length_front (suc n) (y ∷ ys) within = ap (λ (m : ℕ). suc m) (length_front n ys (omega (arith, within)))
 
 -- ---- so far
 
@@ -124,7 +90,7 @@ module _ (all : List SpawnerState) (before : List WorkerCounts) (old : List Reti
   pub all_taken : (k : ℕ) (rest : List SpawnerState) (now : List WorkerCounts) (new : List Retired) (len_now room_now : ℕ) →
       AreTaken k all rest before now old new len_before len_now room_before room_now → rest ≡ [] → AreTaken (length all) all [] before now old new len_before len_now room_before room_now
   all_taken k rest now new len_now room_now so_far none =
-      let end = none_after k all (sym so_far.left ∙ none) so_far.within in
+      let end = all_taken_is k all (sym so_far.left ∙ none) so_far.within in
       let whole : take (length all) all ≡ take k all = ap (λ (n : ℕ). take n all) (sym end.1) in
       record {
         within = omega arith;

@@ -1,27 +1,22 @@
 -- What a nursery in memory keeps, once its spawners came back.
-use Rattle.std.proofs.Common.{◌≡◌, ◌∙◌, ℕ, ◌+◌, ◌<◌, ◌≤◌, Bool, true, false, List, [], ◌∷◌, length, map, drop, get_or, refl, sym, ap, subst, arith, None, zero-add}
+use Rattle.std.proofs.Common.{◌≡◌, ◌∙◌, ℕ, ◌+◌, ◌<◌, ◌≤◌, Bool, true, false, List, [], ◌∷◌, length, map, drop, get_or, refl, ap, subst, arith, None}
 use Rattle.std.specs.Prelude.{All, flat_map, nat_lt, slice_index}
 use Rattle.std.proofs.lemmas.Bool.Decides.{nat_tests}
-use Rattle.std.proofs.lemmas.List.FromFn.{get_or-range_with_len, length-range_with_len}
 use Rattle.std.proofs.lemmas.List.{length-map, length-append, get_or-map, drop-append-le}
 use Rattle.std.proofs.lemmas.List.Elements.{All-append, All-head, All-tail, All-nil}
-use Rattle.px_base.specs.Values.{positions_below}
 use Rattle.px_io.specs.Causes.{LAST}
 use Rattle.link_trait.specs.declared.scripts.Scripted.{Scripted}
 use Rattle.link_trait.specs.Counts.{more_by, all_more_by}
 use Rattle.link_trait.specs.Plans.{LentAs}
 use Rattle.link_trait.specs.Spawners.{Retired, SpawnerView}
 use Rattle.link_trait.specs.Nurseries.{NurseryView, AreBack}
+use Rattle.link_trait.proofs.Lent.{count_is, mark_is, out_is, worker_is}
 use Rattle.link_trait.proofs.Counting.{length_more, more_at, same_at}
 use Rattle.memory_nursery.specs.Scripts.{losses_of, refused_starts}
 use Rattle.memory_nursery.specs.States.{SpawnerState, NurseryState, next_mark, no_mark, no_plan, taken_back}
 use Rattle.memory_nursery.specs.Keeping.{KeepsSpawner, KeepsNursery, IsOfNursery, IsOfSpawner, IsTallied, losses_below, refused_up_to}
 
 -- ---- positions
-
--- the worker at a place
-pub worker_at : (n w : ℕ) → w < n → slice_index (positions_below n) w ≡ w
-worker_at n w low = get_or-range_with_len 0 n w 0 low ∙ zero-add w
 
 -- a number of the spawner at a place
 pub number_at : (f : SpawnerView → ℕ) (all : List SpawnerState) (w : ℕ) (d : SpawnerState) → w < length all → slice_index (map f (map (λ s. s.spawner) all)) w ≡ f (get_or all w d).spawner
@@ -75,8 +70,7 @@ module _ (n : NurseryState) (w : ℕ) (s : SpawnerState) (old : IsTallied n w) (
 
 -- as many spawners come back as were lent
 pub how_many : (n : NurseryView) (all : List SpawnerState) → AreBack n (map (λ s. s.spawner) all) → length all ≡ n.count
-how_many n all back = sym (length-map all (λ (s : SpawnerState). s.spawner)) ∙ (sym (length-map (map (λ (s : SpawnerState). s.spawner) all) (λ (v : SpawnerView). v.worker))
-    ∙ (ap (λ (ws : List ℕ). length ws) back.in_order ∙ length-range_with_len 0 n.count))
+how_many n all back = count_is (λ (s : SpawnerState). s.spawner) n all back
 
 module _ (n : NurseryState) (all : List SpawnerState) (kept : KeepsNursery n) (back : AreBack n.nursery (map (λ s. s.spawner) all)) (each : All KeepsSpawner all) where
   abbrev new : NurseryState
@@ -89,11 +83,9 @@ module _ (n : NurseryState) (all : List SpawnerState) (kept : KeepsNursery n) (b
   home : (w : ℕ) (d : SpawnerState) → w < length all → KeepsSpawner (at_home n (get_or all w d) w)
   home w d low =
       let s : SpawnerState = get_or all w d in
-      let at : get_or (map (λ (s : SpawnerState). s.spawner) all) w d.spawner ≡ s.spawner = get_or-map (λ (s : SpawnerState). s.spawner) all w d d.spawner low in
-      let low' : w < length (map (λ (s : SpawnerState). s.spawner) all) = omega (arith, low, length-map all (λ (s : SpawnerState). s.spawner)) in
-      let its : s.spawner.worker ≡ w = sym (number_at (λ (v : SpawnerView). v.worker) all w d low) ∙ (ap (λ (ws : List ℕ). slice_index ws w) back.in_order ∙ worker_at n.nursery.count w (omega (arith, low, counted))) in
-      let mark : s.spawner.lent_as ≡ next_mark n = ap (λ (v : SpawnerView). v.lent_as) (sym at) ∙ (back.marked w d.spawner low' ∙ kept.marked back.lent) in
-      let out : s.spawner.out ≡ None = ap (λ (v : SpawnerView). v.out) (sym at) ∙ back.none_out w d.spawner low' in
+      let its : s.spawner.worker ≡ w = worker_is (λ (s : SpawnerState). s.spawner) n.nursery all back w d low in
+      let mark : s.spawner.lent_as ≡ next_mark n = mark_is (λ (s : SpawnerState). s.spawner) n.nursery all back w d low ∙ kept.marked back.lent in
+      let out : s.spawner.out ≡ None = out_is (λ (s : SpawnerState). s.spawner) n.nursery all back w d low in
       let keeps : KeepsSpawner s = each w d low in
       subst KeepsSpawner (is_at_home n s w its mark (keeps.plan ∙ ap (λ (m : LentAs). m.plan) mark) out) keeps
 

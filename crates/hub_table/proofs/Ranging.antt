@@ -1,13 +1,14 @@
--- What a range of vertices is, as it is kept.
+-- What a range of vertices is, as it is kept, and where a vertex of a rising list stands.
 use Rattle.std.proofs.Common.{◌≡◌, ℕ, ◌-◌, ◌<◌, ◌≤◌, ◌^◌, ◌∙◌, List, length, get_or, sym, ap, subst, arith}
 use Rattle.std.specs.Prelude.{IfSome, Option, Some, None}
 use Rattle.std.specs.List.{range_with_len}
+use Rattle.std.specs.List.Sorted.{IsStrictlyIncreasing}
 use Rattle.std.proofs.lemmas.List.FromFn.{length-range_with_len, get_or-range_with_len}
 use Rattle.px_base.specs.Values.{place_of}
 use Rattle.hub_table.specs.declared.places.Kept.{Kept}
 use Rattle.hub_table.specs.declared.places.Kept.TheVariants.{Range}
 use Rattle.hub_table.specs.Kept.{vertices_in, IsKept}
-use Rattle.px_base.proofs.Listed.{not_equal, place_is}
+use Rattle.px_base.proofs.Listed.{not_equal, place_is, rising_apart}
 
 pub place_in_range : (low high v : ℕ) → low ≤ v → v < high → (v - low ≡ place_of (range_with_len low (high - low)) v) × (v - low < length (range_with_len low (high - low)))
 place_in_range low high v from to =
@@ -35,3 +36,8 @@ pub found_in_range : (low high v : ℕ) (r : Option ℕ) → IfSome r (λ at. (a
     IfSome r (λ at. (at ≡ place_of (range_with_len low (high - low)) v) × (at < length (range_with_len low (high - low))))
 found_in_range low high v None found = tt
 found_in_range low high v (Some at) found = rw found.0 (place_in_range low high v found.1 found.2)
+
+-- in a rising list a vertex stands at one place
+pub place_by_rise : (vertices : List ℕ) (at v : ℕ) → IsStrictlyIncreasing vertices → at < length vertices → get_or vertices at 0 ≡ v → at ≡ place_of vertices v
+place_by_rise vertices at v rising inside is = place_is vertices v at inside
+    (λ k below. not_equal (get_or vertices k 0) v (λ e. absurd (omega (arith, e, is, rising_apart vertices rising k at below inside)))) is

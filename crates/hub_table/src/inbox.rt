@@ -6,10 +6,12 @@ use std::alloc::Global;
 use std::marker::Model;
 
 /// What waits for one worker. There is a slot for each vertex of which it may get an update, and a list of the slots that are
-/// filled, in no order. Only `new` takes memory.
+/// filled, in no order. The place after that of the last update is kept, since the next one often goes there. Only `new` takes
+/// memory.
 #[derive(Drop)]
 pub struct Inbox {
     places: Places,
+    next: u32,
     slots: Vec<Option<Value>>,
     used: Vec<u32>,
 }
@@ -40,6 +42,7 @@ impl Inbox {
         let used = Vec::with_capacity(alloc, count)?;
         Ok(Inbox {
             places,
+            next: 0,
             slots,
             used,
         })
@@ -64,7 +67,8 @@ impl Inbox {
         requires { is_listed self.old.vertices vertex ≡ true }
         ensures { self.new ≡ record self.old { mail = box_with counting (record { vertex = vertex; value = value }) self.old.mail } }
     {
-        if let Some(at) = self.places.find(vertex) {
+        if let Some(at) = self.places.find(self.next as usize, vertex) {
+            self.next = at as u32 + 1;
             let slot = self.slots[at];
             add_if(is_free(slot), at as u32, &mut self.used);
             self.slots[at] = Some(combined(counting, slot, value));

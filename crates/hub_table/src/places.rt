@@ -1,6 +1,9 @@
 //! The vertices of which updates may come to a worker, and at which place each of them stands.
-ghost use Rattle.std.specs.Prelude.{◌≡◌, ◌<◌, ◌≤◌, ◌-◌, false, IfSome, IfNone};
+ghost use Rattle.std.specs.Prelude.{◌≡◌, ◌<◌, ◌≤◌, ◌-◌, false, IfSome, IfNone, length};
+ghost use Rattle.std.specs.List.Sorted.{IsStrictlyIncreasing};
 ghost use Rattle.px_base.specs.Parts.{is_within};
+ghost use Rattle.px_base.specs.Values.{is_listed, place_of};
+ghost use Rattle.mirror_places.specs.Tables.{IsTableOf};
 
 use mirror_places::PlaceTable;
 use px_base::{Memory, Pos};
@@ -80,13 +83,14 @@ impl Places {
         }
     }
 
-    /// The place of the vertex, if it is one of these.
-    pub fn find(&self, vertex: Pos) -> Option<usize>
+    /// The place of the vertex, if it is one of these. Among listed vertices place `next` is looked at first: of vertices that
+    /// come one after another in the list, each stands at the place after the last one.
+    pub fn find(&self, next: usize, vertex: Pos) -> Option<usize>
         ensures some { IfSome result (λ at. (at ≡ place_of self.now vertex) × (at < length self.now)) }
         ensures none { IfNone result (is_listed self.now vertex ≡ false) }
     {
         match &self.kept {
-            Kept::Listed { vertices, table } => table.find(vertices, vertex),
+            Kept::Listed { vertices, table } => find_listed(vertices, table, next, vertex),
             Kept::Range { low, high } => place_within(*low, *high, vertex),
         }
     }
@@ -100,6 +104,20 @@ impl Places {
             Kept::Listed { vertices, .. } => vertices[at],
             Kept::Range { low, .. } => *low + at as Pos,
         }
+    }
+}
+
+/// The place of the vertex in the list, if it is there: `next`, where it stands there, else by the table.
+#[tactic(auto, using(crate::proofs::Ranging::place_by_rise))]
+fn find_listed(vertices: &[Pos], table: &PlaceTable, next: usize, vertex: Pos) -> Option<usize>
+    requires rising { IsStrictlyIncreasing vertices.now }
+    requires table { IsTableOf vertices.now table.now }
+    ensures some { IfSome result (λ at. (at ≡ place_of vertices.now vertex) × (at < length vertices.now)) }
+    ensures none { IfNone result (is_listed vertices.now vertex ≡ false) }
+{
+    match vertices.get(next) {
+        Some(there) if *there == vertex => Some(next),
+        _ => table.find(vertices, vertex),
     }
 }
 

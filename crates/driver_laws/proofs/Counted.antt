@@ -1,5 +1,5 @@
 -- Losses, counted by the worker that they name.
-use Rattle.std.proofs.Common.{◌≡◌, ◌≢◌, ℕ, zero, suc, ◌+◌, ◌<◌, ◌≤◌, Bool, true, false, cond, List, [], ◌∷◌, length, map, get_or, arith, refl, sym, ap, ◌∙◌, subst, zero-add, inl, inr, eq-eqb}
+use Rattle.std.proofs.Common.{◌≡◌, ℕ, zero, suc, ◌+◌, ◌<◌, ◌≤◌, Bool, true, false, cond, List, [], ◌∷◌, length, get_or, arith, refl, sym, ap, ◌∙◌, subst, zero-add, inl, inr, eq-eqb}
 use Rattle.std.specs.Prelude.{◌==◌, All, sum, sum_by}
 use Rattle.std.proofs.lemmas.List.Elements.{All-cons, All-head, All-nil, All-tail}
 use Rattle.std.proofs.lemmas.Bool.{cases_eq}
@@ -35,10 +35,10 @@ all_named P n (x ∷ xs) within each =
 
 -- ---- their number
 
-sum_up : (f : ℕ → ℕ) (n : ℕ) → sum_by f (positions_below (suc n)) ≡ sum_by f (positions_below n) + f n
+pub sum_up : (f : ℕ → ℕ) (n : ℕ) → sum_by f (positions_below (suc n)) ≡ sum_by f (positions_below n) + f n
 sum_up f n = ap (λ (xs : List ℕ). sum_by f xs) (range_suc 0 n) ∙ (sum_by_push f (positions_below n) (0 + n) ∙ ap (λ (k : ℕ). sum_by f (positions_below n) + f k) (zero-add n))
 
-sum_plus : (f g : ℕ → ℕ) (n : ℕ) → sum_by (λ k. f k + g k) (positions_below n) ≡ sum_by f (positions_below n) + sum_by g (positions_below n)
+pub sum_plus : (f g : ℕ → ℕ) (n : ℕ) → sum_by (λ k. f k + g k) (positions_below n) ≡ sum_by f (positions_below n) + sum_by g (positions_below n)
 sum_plus f g zero = refl
 sum_plus f g (suc n) = omega (arith, sum_up (λ k. f k + g k) n, sum_up f n, sum_up g n, sum_plus f g n)
 
@@ -81,12 +81,13 @@ sum_by_each f xs each = ap sum (is_by_position f xs each) ∙ sum-map f (positio
     is_by_position : (f : ℕ → ℕ) (xs : List ℕ) → ((k : ℕ) → k < length xs → get_or xs k 0 ≡ f k) → xs ≡ by_position (length xs) f
     is_by_position f xs each = ext_get_or 0 xs (by_position (length xs) f) (sym (length_by_position (length xs) f)) (λ k below. each k below ∙ sym (at_position (length xs) f k 0 below))
 
+-- a sum of no greater numbers is no greater
+pub sum_no_more : (one other : ℕ → ℕ) (n : ℕ) → ((k : ℕ) → k < n → one k ≤ other k) → sum_by one (positions_below n) ≤ sum_by other (positions_below n)
+sum_no_more one other zero each = omega arith
+sum_no_more one other (suc n) each = omega (arith, sum_up one n, sum_up other n, sum_no_more one other n (λ k below. each k (omega (arith, below))), each n (omega arith))
+
 pub sum_below_each : (f : ℕ → ℕ) (xs : List ℕ) → ((k : ℕ) → k < length xs → get_or xs k 0 ≤ f k) → sum xs ≤ sum_by f (positions_below (length xs))
 sum_below_each f xs each = rw (sum_by_each (λ k. get_or xs k 0) xs (λ k below. refl)) (sum_no_more (λ k. get_or xs k 0) f (length xs) each)
-  where
-    sum_no_more : (one other : ℕ → ℕ) (n : ℕ) → ((k : ℕ) → k < n → one k ≤ other k) → sum_by one (positions_below n) ≤ sum_by other (positions_below n)
-    sum_no_more one other zero each' = omega arith
-    sum_no_more one other (suc n) each' = omega (arith, sum_up one n, sum_up other n, sum_no_more one other n (λ k below. each' k (omega (arith, below))), each' n (omega arith))
 
 -- with one more for each position
 pub sum_one_more : (f : ℕ → ℕ) (n : ℕ) → sum_by (λ k. f k + 1) (positions_below n) ≡ sum_by f (positions_below n) + n

@@ -1,36 +1,30 @@
 -- What a run leaves of its nursery, from the last state and the spawners that went back.
-use Rattle.std.proofs.Common.{◌≡◌, ◌≢◌, ℕ, ◌+◌, ◌*◌, ◌-◌, ◌<◌, ◌≤◌, ◌^◌, Bool, true, false, List, [], ◌∷◌, ◌++◌, length, map, get_or, Option, Some, None, arith, refl, sym, ap, ◌∙◌, subst, inl, inr}
-use Rattle.std.specs.Prelude.{All, Result, Ok, Err, drop, sum, slice_index, min}
+use Rattle.std.proofs.Common.{◌≡◌, ◌≢◌, ℕ, ◌+◌, ◌<◌, ◌≤◌, ◌^◌, Bool, true, false, List, [], ◌∷◌, ◌++◌, length, map, Option, Some, None, arith, refl, sym, ap, ◌∙◌, subst, inl, inr}
+use Rattle.std.specs.Prelude.{Ok, Err, drop, sum, slice_index}
 use Rattle.std.specs.List.{flat_map}
 use Rattle.std.proofs.lemmas.Bool.{cases_lt}
 use Rattle.std.proofs.Math.Seq.{drop-append_seam}
-use Rattle.px_io.specs.Causes.{LAST}
-use Rattle.px_base.specs.declared.graph.Part.{Part}
-use Rattle.px_base.specs.declared.program.CoreProgram.{CoreProgram}
 use Rattle.px_base.specs.declared.wire.Loss.{Loss}
-use Rattle.px_base.specs.declared.wire.LossKind.TheVariants.{Ended}
 use Rattle.px_base.specs.Parts.{block_cuts, part_count, part_of}
-use Rattle.px_base.specs.Values.{IsValue, IsValueList}
-use Rattle.px_base.specs.Worlds.{World}
+use Rattle.px_base.specs.Values.{IsValueList}
 use Rattle.hub_terms.specs.declared.stops.Why.{Why}
 use Rattle.hub_terms.specs.declared.stops.Why.TheVariants as why
 use Rattle.hub_terms.specs.declared.tasks.Limits.{Limits}
-use Rattle.hub_terms.specs.Hubs.{reported_values, worker_count}
-use Rattle.hub_terms.specs.InStep.{IsWorldOf, round_of}
+use Rattle.hub_terms.specs.Hubs.{worker_count}
 use Rattle.hub_terms.specs.Jobs.{job_of}
 use Rattle.hub_terms.specs.Jobs as jobs
-use Rattle.hub_terms.specs.Systems.{SystemState, opening_system, part_at, world_at}
+use Rattle.hub_terms.specs.Systems.{SystemState, opening_system, part_at}
 use Rattle.hub_terms.specs.Valid.{IsCoreAnswer}
-use Rattle.hub_laws.proofs.Workers.{IsIdle, idle_at}
+use Rattle.hub_laws.proofs.Workers.{idle_at}
 use Rattle.system_core.specs.Promises.{IsDone}
-use Rattle.round_laws.specs.OnTime.{AllowsEnough, IsTimed, rounds_enough}
+use Rattle.round_laws.specs.OnTime.{AllowsEnough, rounds_enough}
 use Rattle.round_laws.specs.Rounds.{AllLive}
 use Rattle.budget_laws.specs.KeptFacts.{KeepsAll}
 use Rattle.link_trait.specs.Counts.{HasRisen, all_more_by, more_by}
 use Rattle.link_trait.specs.Links.{LinkView}
-use Rattle.link_trait.specs.Nurseries.{with_room, NurseryView, AreBack, IsLent, IsTakenBack}
+use Rattle.link_trait.specs.Nurseries.{NurseryView, AreBack, IsLent, IsTakenBack, with_room}
 use Rattle.link_trait.specs.Spawners.{Retired, SpawnerView}
-use Rattle.link_trait.proofs.Counting.{more_at, same_at, sum_more}
+use Rattle.link_trait.proofs.Counting.{length_more, more_at, same_at, sum_more}
 use Rattle.driver_laws.specs.declared.job.Job.{Job}
 use Rattle.driver_laws.specs.declared.endings.Finished.{Finished}
 use Rattle.driver_laws.specs.declared.endings.Stop.{Stop}
@@ -38,8 +32,8 @@ use Rattle.driver_laws.specs.declared.endings.Stop.TheVariants as stop
 use Rattle.driver_laws.specs.Jobs.{IsSoundJob, job_part, vertices}
 use Rattle.driver_laws.specs.Seats.{HasRisenBy, IsInTune, ended_count, marks_of, naming}
 use Rattle.driver_laws.specs.Turns.{IsOver, IsSameRun}
-use Rattle.driver_laws.specs.Endings.{AreLosses, AreOfParts, HasStopped, HaveReported, IsBack, IsFinished, IsOutcome, IsRefused, IsSpent, IsTooMany, NoneFell, keeps_links, retired_since}
-use Rattle.driver_laws.proofs.Freed.{AreReleased, all_starts, are_back, count_size, ends_at, faults_at, few_starts, loss_kinds, loss_workers, most_starts, size}
+use Rattle.driver_laws.specs.Endings.{AreLosses, AreOfParts, HasStopped, IsBack, IsFinished, IsOutcome, IsRefused, IsSpent, IsTooMany, NoneFell, keeps_links, retired_since}
+use Rattle.driver_laws.proofs.Freed.{AreReleased, all_starts, are_back, count_size, ends_at, faults_at, few_starts, loss_kinds, loss_workers, most_starts}
 use Rattle.driver_laws.proofs.Kept.{links_in_order, links_masters, links_reported, links_rounds, links_worlds, none_retired}
 use Rattle.driver_laws.proofs.Opening.{blocks_count}
 
@@ -54,13 +48,16 @@ unbegun old new lent plan tells starts faults ends same = record {
   lent = lent;
   plan = plan;
   tells = tells;
-  starts = λ k. rw starts (omega arith);
-  faults = λ k. rw faults (omega arith);
-  ends = λ k. rw ends (omega arith);
+  starts = rw starts (still old.starts);
+  faults = rw faults (still old.faults);
+  ends = rw ends (still old.ends);
   retired = rw same (sym (append_none old.retired) ∙ ap (λ (rs : List Retired). old.retired ++ rs) (sym (none_since old.retired)));
   untold = λ silent. same;
 }
   where
+    still : (xs : List ℕ) → NoneFell xs xs
+    still xs = record { places = refl; each = λ k. omega arith }
+
     none_since : (xs : List Retired) → drop (length xs) xs ≡ []
     none_since [] = refl
     none_since (x ∷ xs) = none_since xs
@@ -76,10 +73,13 @@ risen_on : (n before more : ℕ) → HasRisenBy n 0 more → HasRisenBy n before
 risen_on n before more had = omega (arith, had)
 
 never_fell : (xs ys : List ℕ) → length ys ≤ length xs → NoneFell xs (all_more_by xs ys)
-never_fell xs ys fits k = elim (cases_lt k (length ys)) [
-  | inl below ↦ rw (more_at xs ys k (omega (arith, below, fits)) below) (omega arith)
-  | inr past ↦ rw (same_at xs ys k past) (omega arith)
-]
+never_fell xs ys fits = record {
+  places = length_more xs ys;
+  each = λ k. elim (cases_lt k (length ys)) [
+    | inl below ↦ rw (more_at xs ys k (omega (arith, below, fits)) below) (omega arith)
+    | inr past ↦ rw (same_at xs ys k past) (omega arith)
+  ];
+}
 
 -- ---- a run that was begun
 

@@ -1,41 +1,37 @@
 -- Spawner and link of a worker go with the state, after each event of its turn and after any turn of another worker.
-use Rattle.std.proofs.Common.{◌≡◌, ◌≢◌, ℕ, ◌+◌, ◌<◌, ◌≤◌, ◌^◌, Bool, true, false, cond, List, [], ◌∷◌, ◌++◌, Option, Some, None, length, set, arith, refl, sym, ap, subst, ◌∙◌, inl, inr, ⊎_elim, eq-eqb}
-use Rattle.std.specs.Prelude.{◌==◌, ◌⊎◌, All, MatchOption, Ok, filter, count_by, min, nat_lt, is_none, is_some, if◌then◌else◌}
-use Rattle.std.proofs.lemmas.List.{get_or-set_same, length-append}
+use Rattle.std.proofs.Common.{◌≡◌, ℕ, ◌+◌, ◌<◌, ◌≤◌, ◌^◌, Bool, true, false, cond, List, [], ◌∷◌, ◌++◌, Option, Some, None, length, set, arith, refl, sym, ap, subst, ◌∙◌, inl, inr, eq-eqb}
+use Rattle.std.specs.Prelude.{◌==◌, min, nat_lt, is_none, if◌then◌else◌}
+use Rattle.std.proofs.lemmas.List.{length-append}
 use Rattle.std.proofs.lemmas.Bool.{cases_lt}
 use Rattle.std.proofs.lemmas.List.Elements.{filter-append, All-push}
 use Rattle.std.proofs.lemmas.List.Sums.{sum_by-append, sum_by-cons}
-use Rattle.px_io.specs.Causes.{LAST, one_more}
+use Rattle.px_io.specs.Causes.{LAST}
 use Rattle.px_base.specs.declared.graph.Part.{Part}
 use Rattle.px_base.specs.declared.program.CoreProgram.{CoreProgram}
-use Rattle.px_base.specs.declared.wire.Answer.{Answer}
-use Rattle.px_base.specs.declared.wire.Answer.TheVariants.{Stepped, Reported}
-use Rattle.px_base.specs.declared.wire.Foreign.{Foreign}
 use Rattle.px_base.specs.declared.wire.Loss.{Loss}
 use Rattle.px_base.specs.declared.wire.LossKind.{LossKind}
-use Rattle.px_base.specs.declared.wire.LossKind.TheVariants.{Ended, Broke}
+use Rattle.px_base.specs.declared.wire.LossKind.TheVariants.{Ended}
 use Rattle.px_base.specs.declared.wire.Order.{Order}
 use Rattle.px_base.specs.declared.wire.Order.TheVariants.{Step, Report}
 use Rattle.px_base.specs.declared.wire.Update.{Update}
-use Rattle.px_base.specs.Worlds.{World}
 use Rattle.hub_terms.specs.declared.stops.Halt.TheVariants.{Memory}
 use Rattle.hub_terms.specs.declared.stops.Why.{Why}
 use Rattle.hub_terms.specs.declared.stops.Why.TheVariants as why
 use Rattle.hub_terms.specs.declared.tasks.Task.{Task}
 use Rattle.hub_terms.specs.declared.tasks.Task.TheVariants as task
 use Rattle.hub_terms.specs.declared.workers.MemberState.{MemberState}
-use Rattle.hub_terms.specs.Hubs.{HubState, Turn, after_turn, order_at, reported_at, turn_of, waiting_at, worker_at, worker_count}
-use Rattle.hub_terms.specs.Seats.{SeatPart, names_worker, seat_part}
-use Rattle.hub_terms.specs.Systems.{SystemState, give, halt, joined, lost, new_world_at, part_at, state_after, world_at, with_world}
-use Rattle.link_trait.specs.Links.{LinkView, IsSameLink}
-use Rattle.link_trait.specs.Spawners.{SpawnerView, IsLinkOf, IsStarted, discarded, new_peer, not_started}
+use Rattle.hub_terms.specs.Hubs.{HubState, Turn, after_turn, waiting_at, worker_at, worker_count}
+use Rattle.hub_terms.specs.Seats.{SeatPart, names_worker}
+use Rattle.hub_terms.specs.Systems.{SystemState, give, halt, joined, lost, new_world_at, part_at, state_after, world_at}
+use Rattle.link_trait.specs.Links.{LinkView}
+use Rattle.link_trait.specs.Spawners.{SpawnerView, IsStarted, discarded, new_peer, not_started}
 use Rattle.list_laws.proofs.Lists.{counted_most}
 use Rattle.hub_laws.proofs.Workers.{due_tasked, live_tasked, re_tasked}
 use Rattle.hub_laws.proofs.HubGave.{turn_by}
 use Rattle.hub_laws.proofs.HubChanged.{joined_worker, lost_worker}
 use Rattle.system_laws.proofs.WorldsKept.{world_there}
 use Rattle.budget_laws.specs.KeptFacts.{KeepsAll}
-use Rattle.driver_laws.specs.Seats.{CountsLosses, Fits, HasAnswered, HasRisenBy, IsLinked, IsMissing, IsSpawnerOf, ended_count, is_ended, losses_of, naming}
+use Rattle.driver_laws.specs.Seats.{CountsLosses, Fits, HasRisenBy, IsLinked, IsMissing, IsSpawnerOf, ended_count, is_ended, losses_of, naming}
 use Rattle.driver_laws.proofs.Stays.{GainsNothing, Stays}
 
 -- ---- what doesn't touch a worker

@@ -1,26 +1,25 @@
 -- The spawners once their links were taken back: they can go back to the nursery, and what their counts say of the run.
-use Rattle.std.proofs.Common.{◌≡◌, ℕ, ◌+◌, ◌*◌, ◌<◌, ◌≤◌, Bool, true, false, List, [], ◌∷◌, length, map, get_or, Option, Some, None, arith, refl, sym, ap, ◌∙◌, subst, zero-add, eq-eqb}
-use Rattle.std.specs.Prelude.{All, MatchOption, min, sum, sum_by, if◌then◌else◌, ⊤}
-use Rattle.std.proofs.lemmas.List.{ext_get_or, get_or-map, length-map, length-replicate, length-set}
+use Rattle.std.proofs.Common.{◌≡◌, ℕ, ◌+◌, ◌*◌, ◌<◌, ◌≤◌, Bool, true, false, List, [], length, map, get_or, Option, Some, None, arith, refl, sym, ap, ◌∙◌, subst, zero-add, eq-eqb}
+use Rattle.std.specs.Prelude.{All, MatchOption, sum, sum_by, ⊤}
+use Rattle.std.proofs.lemmas.List.{ext_get_or, get_or-map, length-map}
 use Rattle.std.proofs.lemmas.List.Elements.{All-from_get_or}
 use Rattle.std.proofs.lemmas.List.Sums.{sum_by-le}
 use Rattle.std.proofs.lemmas.List.FromFn.{get_or-range_with_len, length-range_with_len}
-use Rattle.px_io.specs.Causes.{LAST}
 use Rattle.px_base.specs.declared.wire.Loss.{Loss}
 use Rattle.px_base.specs.declared.wire.LossKind.TheVariants.{Ended}
-use Rattle.px_base.specs.Values.{by_position, positions_below}
+use Rattle.px_base.specs.Values.{positions_below}
 use Rattle.px_base.proofs.Positions.{at_position, length_by_position}
 use Rattle.hub_terms.specs.declared.stops.Why.TheVariants as why
-use Rattle.hub_terms.specs.Hubs.{worker_at, worker_count}
+use Rattle.hub_terms.specs.Hubs.{worker_count}
 use Rattle.hub_terms.specs.Seats.{names_worker}
 use Rattle.hub_terms.specs.Systems.{SystemState}
 use Rattle.round_laws.specs.Rounds.{AllLive}
 use Rattle.link_trait.specs.Links.{LinkView}
 use Rattle.link_trait.specs.Nurseries.{NurseryView, AreBack, IsLent, new_spawner}
 use Rattle.link_trait.specs.Plans.{LentAs, Plan}
-use Rattle.link_trait.specs.Spawners.{SpawnerView, IsLinkOf, discarded, retired}
+use Rattle.link_trait.specs.Spawners.{SpawnerView, IsLinkOf, discarded}
 use Rattle.budget_laws.specs.KeptFacts.{KeepsAll}
-use Rattle.driver_laws.specs.Seats.{CountsLosses, Fits, HasRisenBy, IsInTune, ended_count, losses_of, marks_of, naming}
+use Rattle.driver_laws.specs.Seats.{CountsLosses, Fits, HasRisenBy, IsInTune, ended_count, marks_of, naming}
 use Rattle.driver_laws.specs.Endings.{released}
 use Rattle.driver_laws.proofs.Counted.{all_named, named_total, sum_below_each, sum_by_each, sum_one_more}
 
@@ -86,7 +85,7 @@ module _ (s : SystemState) (keep : Bool) (ps qs : List SpawnerView) (ls : List (
     lent = ap (λ (v : NurseryView). v.lent) lends.nursery;
     in_order = ext_get_or 0 (map (λ (q : SpawnerView). q.worker) qs) (positions_below lent.count) (length-map qs (λ (q : SpawnerView). q.worker) ∙ (size ∙ (sym counted ∙ sym (length-range_with_len 0 lent.count))))
         (λ k below. let here : k < n = omega (arith, below, length-map qs (λ (q : SpawnerView). q.worker), size) in
-          get_or-map (λ (q : SpawnerView). q.worker) qs k (new_spawner lent k) 0 (omega (arith, here, size)) ∙ ((freed_at k (new_spawner lent k) here).worker ∙ sym (get_or-range_with_len 0 lent.count k 0 (omega (arith, here, counted)) ∙ zero-add k)));
+        get_or-map (λ (q : SpawnerView). q.worker) qs k (new_spawner lent k) 0 (omega (arith, here, size)) ∙ ((freed_at k (new_spawner lent k) here).worker ∙ sym (get_or-range_with_len 0 lent.count k 0 (omega (arith, here, counted)) ∙ zero-add k)));
     marked = All-from_get_or (λ (q : SpawnerView). q.lent_as ≡ lent.mark) qs (new_spawner lent 0) (λ k below. mark_at k (omega (arith, below, size)));
     none_out = All-from_get_or (λ (q : SpawnerView). q.out ≡ None) qs (new_spawner lent 0) (λ k below. (freed_at k (new_spawner lent 0) (omega (arith, below, size))).out);
     room = omega (arith, counted, lends.room);
@@ -143,9 +142,13 @@ module _ (s : SystemState) (keep : Bool) (ps qs : List SpawnerView) (ls : List (
 
   -- no more starts than workers and losses
   pub most_starts : KeepsAll s → sum starts ≤ length losses + n
-  most_starts kept = omega (arith, total_is kept, sum_below_each (λ (k : ℕ). length (naming k losses) + 1) starts (λ k below.
-      let here : k < n = omega (arith, below, count_size (λ (q : SpawnerView). q.starts)) in
-      omega (arith, count_at (λ (q : SpawnerView). q.starts) k here, (freed_at k no_spawner here).counts.most_starts)))
+  most_starts kept = omega (
+    arith,
+    total_is kept,
+    sum_below_each (λ (k : ℕ). length (naming k losses) + 1) starts (λ k below.
+        let here : k < n = omega (arith, below, count_size (λ (q : SpawnerView). q.starts)) in
+        omega (arith, count_at (λ (q : SpawnerView). q.starts) k here, (freed_at k no_spawner here).counts.most_starts)),
+  )
 
   -- just as many where all workers are live and nothing stops the run
   pub all_starts : KeepsAll s → s.hub.halt ≡ None → AllLive s.hub → sum starts ≡ length losses + n

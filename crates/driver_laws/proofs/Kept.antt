@@ -1,6 +1,6 @@
 -- The links that a run leaves retired: one of each worker, in order, each with the worker's world.
-use Rattle.std.proofs.Common.{◌≡◌, ℕ, zero, suc, ◌+◌, ◌<◌, ◌≤◌, Bool, true, false, List, [], ◌∷◌, ◌++◌, length, map, get_or, Option, Some, None, arith, refl, sym, ap, ◌∙◌, subst, zero-add, add-zero}
-use Rattle.std.specs.Prelude.{All, is_none, is_some, unwrap_or}
+use Rattle.std.proofs.Common.{◌≡◌, ℕ, zero, suc, ◌+◌, ◌<◌, ◌≤◌, Bool, true, false, List, [], ◌∷◌, ◌++◌, length, map, get_or, Option, Some, None, arith, refl, sym, ap, ◌∙◌, subst, zero-add}
+use Rattle.std.specs.Prelude.{All, is_some, unwrap_or}
 use Rattle.std.specs.List.{flat_map}
 use Rattle.std.proofs.lemmas.List.{ext_get_or, get_or-map, get_or_default, length-map}
 use Rattle.std.proofs.lemmas.List.Concat.{flat_map-cons}
@@ -16,7 +16,6 @@ use Rattle.hub_terms.specs.Systems.{SystemState, part_at, world_at}
 use Rattle.list_laws.proofs.Lists.{all_at}
 use Rattle.link_trait.specs.Links.{LinkView}
 use Rattle.link_trait.specs.Spawners.{Retired, SpawnerView, kept_of}
-use Rattle.round_laws.specs.OnTime.{AreSpent}
 use Rattle.round_laws.specs.Rounds.{AllLive}
 use Rattle.round_laws.proofs.Suffice.{world_of_live}
 use Rattle.budget_laws.specs.KeptFacts.{KeepsAll}

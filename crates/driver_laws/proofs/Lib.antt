@@ -11,3 +11,4 @@ pub mod Counted
 pub mod Freed
 pub mod Kept
 pub mod Ended
+pub mod Paid

@@ -1,6 +1,6 @@
 -- What each way out of a turn shows: which turn it was, that spawner and link go with the state, and how the run goes on.
-use Rattle.std.proofs.Common.{◌≡◌, ◌≢◌, ℕ, ◌+◌, ◌<◌, ◌≤◌, Bool, true, false, List, [], ◌∷◌, Option, Some, None, arith, refl, sym, ap, subst, ◌∙◌, inl, inr}
-use Rattle.std.specs.Prelude.{◌⊎◌, MatchBool, Result, Ok, Err, is_some, nat_lt, length, if◌then◌else◌}
+use Rattle.std.proofs.Common.{◌≡◌, ℕ, ◌+◌, ◌<◌, Bool, true, false, Option, Some, None, arith, refl, sym, ap, subst, ◌∙◌, inl}
+use Rattle.std.specs.Prelude.{MatchBool, Result, Ok, Err, nat_lt, length, if◌then◌else◌}
 use Rattle.std.proofs.lemmas.List.{get_or-set_same}
 use Rattle.px_base.specs.declared.wire.Answer.{Answer}
 use Rattle.px_base.specs.declared.wire.Broken.{Broken}
@@ -24,13 +24,12 @@ use Rattle.link_trait.specs.Counts.{HasRisen}
 use Rattle.link_trait.specs.Links.{LinkView}
 use Rattle.link_trait.specs.Spawners.{SpawnerView, discarded, not_started}
 use Rattle.system_core.specs.Promises.{IsHandedOut}
-use Rattle.round_laws.specs.Rounds.{AllLive}
 use Rattle.hub_laws.proofs.HubGave.{some_same, turn_by}
 use Rattle.hub_laws.proofs.HubChanged.{lost_order}
 use Rattle.budget_laws.specs.KeptFacts.{KeepsAll}
 use Rattle.budget_laws.proofs.AllKept.{event_keeps_all, give_first_spent}
 use Rattle.driver_laws.specs.Seats.{Fits, IsLinked, IsMissing}
-use Rattle.driver_laws.specs.Turns.{GoesOn, IsOver, IsReply, IsTurn, Leads, Reply, answers, gives_up, is_lost, reply_events, rests, stays_away, wants, work_left, works}
+use Rattle.driver_laws.specs.Turns.{GoesOn, IsOver, IsReply, IsTurn, Reply, answers, gives_up, is_lost, reply_events, rests, stays_away, work_left, works}
 use Rattle.driver_laws.proofs.Fitting.{IsCause, gave_fits, lost_fits, not_started_fits, wants_fits}
 use Rattle.driver_laws.proofs.Work.{joined_less, lost_less, order_same_work, taken_less}
 

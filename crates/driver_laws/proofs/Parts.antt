@@ -1,6 +1,5 @@
 -- A link can be started on each part of a sound job.
 use Rattle.std.proofs.Common.{◌≡◌, ℕ, ◌<◌, ◌≤◌, List, length, get_or, arith, ap, ◌∙◌}
-use Rattle.std.specs.Prelude.{All}
 use Rattle.std.specs.List.Sorted.{IsSortedBy}
 use Rattle.px_base.specs.declared.graph.Part.{Part}
 use Rattle.px_base.specs.declared.graph.Read.{Read}

@@ -1,5 +1,5 @@
 -- What an event, or a turn, of one worker leaves of the run and of another worker.
-use Rattle.std.proofs.Common.{◌≡◌, ◌≢◌, ℕ, ◌<◌, Bool, true, false, List, [], ◌∷◌, Option, Some, None, refl, sym, ap, subst, ◌∙◌, inl, inr, ⊎_elim}
+use Rattle.std.proofs.Common.{◌≡◌, ◌≢◌, ℕ, ◌<◌, Bool, true, false, List, [], ◌∷◌, Option, Some, None, refl, sym, ap, subst, ◌∙◌, ⊎_elim}
 use Rattle.std.specs.Prelude.{◌==◌, ◌+◌, nat_lt, length, if◌then◌else◌}
 use Rattle.px_base.specs.declared.wire.Answer.{Answer}
 use Rattle.px_base.specs.declared.wire.Answer.TheVariants.{Stepped, Reported}
@@ -17,7 +17,7 @@ use Rattle.hub_terms.specs.Hubs.{HubState, Turn, after_turn, order_at, reported_
 use Rattle.hub_terms.specs.HubEvents.{absorption, after_halt, after_join, after_loss, answer_taken, answer_to, foreign_of, why_of}
 use Rattle.hub_terms.specs.HubInStep.{IsHubInStep}
 use Rattle.hub_terms.specs.Seats.{seat_part, worker_of}
-use Rattle.hub_terms.specs.Systems.{SystemState, Event, AnswersValues, IsRun, MayCome, give, halt, joined, lost, state_after, state_after_all, state_taken, took, with_world, world_after}
+use Rattle.hub_terms.specs.Systems.{SystemState, Event, AnswersValues, IsRun, MayCome, give, halt, joined, lost, state_after, state_after_all, state_taken, took}
 use Rattle.hub_laws.proofs.Workers.{due_tasked}
 use Rattle.hub_laws.proofs.HubGave.{turn_by}
 use Rattle.hub_laws.proofs.HubTook.{report_at, reported_hub, reported_is, reported_order, right_answer, stepped_hub, stepped_is, stepped_order, worker_other}
@@ -26,7 +26,7 @@ use Rattle.system_laws.proofs.SeatsApart.{seat_kept}
 use Rattle.round_laws.proofs.Suffice.{same_run}
 use Rattle.budget_laws.specs.KeptFacts.{KeepsAll}
 use Rattle.budget_laws.proofs.AllKept.{event_keeps_all}
-use Rattle.driver_laws.specs.Turns.{IsReply, IsSameRun, IsTurn, Leads, Reply, Turned, answers, gives_up, is_lost, joins, reply_events, rests, stays_away, turn_events, wants, works}
+use Rattle.driver_laws.specs.Turns.{IsSameRun, IsTurn, Leads, Reply, Turned, answers, gives_up, is_lost, joins, reply_events, rests, stays_away, turn_events, wants, works}
 
 -- ---- an event
 

@@ -1,35 +1,29 @@
 -- What the hub takes leaves of the worker that answered, and the link goes with it.
-use Rattle.std.proofs.Common.{◌≡◌, ◌≢◌, ℕ, ◌<◌, ◌≤◌, Bool, true, false, List, Option, Some, None, arith, refl, sym, ap, subst, ◌∙◌, ⊎_elim, inl, inr, eqb-true}
-use Rattle.std.specs.Prelude.{◌==◌, ◌⊎◌, MatchOption, Result, Ok, Err, is_none, is_some, ⊤}
-use Rattle.px_io.specs.Causes.{LAST, one_more}
+use Rattle.std.proofs.Common.{◌≡◌, ℕ, ◌<◌, ◌≤◌, Bool, true, false, List, Option, Some, None, arith, refl, sym, ap, subst, ◌∙◌, ⊎_elim, inl, inr, eqb-true}
+use Rattle.std.specs.Prelude.{◌==◌, ◌⊎◌, MatchOption, Result, Ok, is_some, ⊤}
 use Rattle.px_base.specs.declared.wire.Answer.{Answer}
 use Rattle.px_base.specs.declared.wire.Answer.TheVariants.{Stepped, Reported}
 use Rattle.px_base.specs.declared.wire.Foreign.{Foreign}
-use Rattle.px_base.specs.declared.wire.Loss.{Loss}
 use Rattle.px_base.specs.declared.wire.Order.{Order}
 use Rattle.px_base.specs.declared.wire.Order.TheVariants.{Step, Report}
 use Rattle.px_base.specs.declared.wire.Update.{Update}
 use Rattle.px_base.specs.Worlds.{World}
 use Rattle.recovery.specs.Givens.{GivenState}
-use Rattle.hub_terms.specs.declared.stops.Why.{Why}
 use Rattle.hub_terms.specs.declared.tasks.Task.TheVariants as task
-use Rattle.hub_terms.specs.declared.workers.MemberState.{MemberState}
-use Rattle.hub_terms.specs.Members.{MembersState}
 use Rattle.hub_terms.specs.Hubs.{HubState, order_at, reported_at, worker_at, worker_count}
 use Rattle.hub_terms.specs.HubEvents.{absorption, after_answer, answer_taken, answer_to, foreign_of}
 use Rattle.hub_terms.specs.HubInStep.{IsHubInStep}
 use Rattle.hub_terms.specs.Seats.{names_worker}
-use Rattle.hub_terms.specs.Systems.{SystemState, AnswersValues, IsHonestAnswer, MayCome, state_after, state_taken, step_of, took, with_world, world_after, world_at, world_left}
+use Rattle.hub_terms.specs.Systems.{SystemState, AnswersValues, IsHonestAnswer, step_of, with_world, world_after, world_at, world_left}
 use Rattle.link_trait.specs.Links.{LinkView, Accepts, IsAnswered, IsHonestTo, IsSameLink, is_told, peer_after, reports_with}
-use Rattle.link_trait.specs.Spawners.{SpawnerView, IsLinkOf}
+use Rattle.link_trait.specs.Spawners.{SpawnerView}
 use Rattle.system_core.specs.Promises.{IsHandedOut}
 use Rattle.hub_laws.proofs.Workers.{idle_at, live_tasked}
 use Rattle.hub_laws.proofs.HubTook.{report_at, reported_hub, reported_is, reported_order, right_answer, stepped_hub, stepped_is, stepped_order, told_order, took_live, took_order}
-use Rattle.system_laws.proofs.Kept.{none_told}
 use Rattle.system_laws.proofs.WorldsKept.{world_there}
 use Rattle.round_laws.proofs.Suffice.{world_of_live}
 use Rattle.budget_laws.specs.KeptFacts.{KeepsAll}
-use Rattle.driver_laws.specs.Seats.{CountsLosses, HasAnswered, IsLinked, IsSpawnerOf, losses_of, naming}
+use Rattle.driver_laws.specs.Seats.{IsLinked, losses_of, naming}
 
 -- ---- what the hub takes
 

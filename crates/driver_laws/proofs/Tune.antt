@@ -1,21 +1,20 @@
 -- All workers stay in tune, over turns and rounds of them.
-use Rattle.std.proofs.Common.{◌≡◌, ◌≢◌, ℕ, zero, suc, ◌+◌, ◌<◌, ◌≤◌, Bool, true, false, List, [], ◌∷◌, length, map, get_or, set, Option, Some, None, arith, ⊎_elim, refl, sym, ◌∙◌, ap, subst, replicate, inl, inr}
-use Rattle.std.specs.Prelude.{◌⊎◌, MatchBool}
+use Rattle.std.proofs.Common.{◌≡◌, ℕ, ◌+◌, ◌<◌, ◌≤◌, List, length, map, get_or, set, Option, None, arith, ⊎_elim, refl, sym, ◌∙◌, ap, subst, inl, inr}
+use Rattle.std.specs.Prelude.{◌⊎◌}
 use Rattle.std.specs.Option.{option_map}
 use Rattle.std.proofs.lemmas.List.{map-set, get_or-map, get_or-set_same, get_or-set_other, length-set, length-map}
-use Rattle.std.proofs.lemmas.Bool.{cases_eq, cases_lt}
+use Rattle.std.proofs.lemmas.Bool.{cases_eq}
 use Rattle.std.proofs.Math.Seq.{map-set_same}
 use Rattle.px_base.specs.Parts.{part_count}
-use Rattle.hub_terms.specs.Hubs.{order_at, turn_of, wait, worker_at, worker_count}
+use Rattle.hub_terms.specs.Hubs.{order_at, turn_of, worker_at, worker_count}
 use Rattle.hub_terms.specs.Seats.{SeatPart}
 use Rattle.hub_terms.specs.Systems.{SystemState}
 use Rattle.hub_laws.proofs.Stuck.{never_stuck}
 use Rattle.link_trait.specs.Links.{LinkView}
-use Rattle.link_trait.specs.Plans.{LentAs}
 use Rattle.link_trait.specs.Spawners.{SpawnerView}
 use Rattle.budget_laws.specs.KeptFacts.{KeepsAll}
 use Rattle.driver_laws.specs.Seats.{Fits, IsInTune, marks_of}
-use Rattle.driver_laws.specs.Turns.{GoesOn, HasWaited, IsNearer, IsOver, IsSameRun, IsTurn, work_left}
+use Rattle.driver_laws.specs.Turns.{GoesOn, HasWaited, IsNearer, IsSameRun, IsTurn, work_left}
 use Rattle.driver_laws.proofs.Stays.{run_itself, run_on, turn_run, turn_stays}
 use Rattle.driver_laws.proofs.Fitting.{fits_after}
 
@@ -90,10 +89,13 @@ moved_more s t u i before turn goes = record {
     by_now (inl less) (inl fewer) = inl (omega (arith, less, fewer))
     by_now (inl less) (inr same) = inl (omega (arith, less, ap (λ (x : SystemState). work_left x.hub) same.0))
     by_now (inr waited) (inl fewer) = inl (omega (arith, fewer, ap (λ (x : SystemState). work_left x.hub) waited.same))
-    by_now (inr waited) (inr same) = inr (waited.same ∙ same.0, λ j below. elim (cases_eq j i) [
-      | inl e ↦ rw e (record { same = refl; live = ap (λ (x : SystemState). (worker_at x.hub i).live) (sym same.0) ∙ waited.live; told = ap (λ (x : SystemState). turn_of x.hub i) (sym same.0) ∙ waited.told })
-      | inr ne ↦ same.1 j (omega (arith, ne))
-    ])
+    by_now (inr waited) (inr same) = inr (
+      waited.same ∙ same.0,
+      λ j below. elim (cases_eq j i) [
+        | inl e ↦ rw e (record { same = refl; live = ap (λ (x : SystemState). (worker_at x.hub i).live) (sym same.0) ∙ waited.live; told = ap (λ (x : SystemState). turn_of x.hub i) (sym same.0) ∙ waited.told })
+        | inr ne ↦ same.1 j (omega (arith, ne))
+      ],
+    )
 
 -- after all workers had their turn less may happen: had all of them waited, the run would be stuck
 pub round_nearer : (s t : SystemState) (i : ℕ) → KeepsAll s → s.hub.halt ≡ None → ((j : ℕ) → order_at s.hub j ≡ None) → worker_count s.hub ≤ i → HasMoved s t i → IsNearer s t

@@ -1,12 +1,12 @@
 -- Each turn that isn't to wait leaves less that may still happen.
-use Rattle.std.proofs.Common.{◌≡◌, ◌≢◌, ℕ, suc, ◌+◌, ◌-◌, ◌*◌, ◌<◌, ◌≤◌, Bool, true, false, cond, List, [], ◌∷◌, Option, Some, None, length, map, set, get_or, arith, refl, sym, ap, subst, ◌∙◌, inl, inr, ⊎_elim, eq-eqb}
-use Rattle.std.specs.Prelude.{◌==◌, ◌⊎◌, All, Ok, Err, MatchOption, Result, filter, sum_by, count_by, is_none, nat_lt, replicate, if◌then◌else◌, ⊤}
-use Rattle.std.proofs.lemmas.List.{get_or-set_same, length-set, length-map, length-replicate}
+use Rattle.std.proofs.Common.{◌≡◌, ℕ, suc, ◌+◌, ◌-◌, ◌*◌, ◌<◌, ◌≤◌, Bool, true, false, List, [], ◌∷◌, Option, Some, None, length, map, set, get_or, arith, refl, sym, ap, subst, ◌∙◌, eq-eqb}
+use Rattle.std.specs.Prelude.{◌==◌, Ok, Result, sum_by, count_by, is_none, replicate, if◌then◌else◌}
+use Rattle.std.proofs.lemmas.List.{length-set, length-map, length-replicate}
 use Rattle.std.proofs.lemmas.List.Elements.{All-from_get_or}
 use Rattle.std.proofs.lemmas.List.Sums.{sum_by-set, sum_by-cons, sum_by-le, count_by-le-length}
 use Rattle.std.proofs.Math.ListN.{get_or-map}
 use Rattle.std.proofs.Math.Seq.{map-set_same}
-use Rattle.std.proofs.Math.Nat.{suc-mul, mul-le-mul_left, mul-le-mul_right}
+use Rattle.std.proofs.Math.Nat.{suc-mul, mul-le-mul_right}
 use Rattle.px_base.specs.declared.wire.Answer.{Answer}
 use Rattle.px_base.specs.declared.wire.Answer.TheVariants.{Stepped, Reported}
 use Rattle.px_base.specs.declared.wire.Foreign.{Foreign}
@@ -14,9 +14,6 @@ use Rattle.px_base.specs.declared.wire.LossKind.{LossKind}
 use Rattle.px_base.specs.declared.wire.Order.{Order}
 use Rattle.px_base.specs.declared.wire.Order.TheVariants.{Step, Report}
 use Rattle.px_base.specs.declared.wire.Update.{Update}
-use Rattle.hub_terms.specs.declared.stops.Halt.TheVariants.{Memory}
-use Rattle.hub_terms.specs.declared.stops.Why.{Why}
-use Rattle.hub_terms.specs.declared.stops.Why.TheVariants as why
 use Rattle.hub_terms.specs.declared.tasks.Task.{Task}
 use Rattle.hub_terms.specs.declared.tasks.Task.TheVariants as task
 use Rattle.hub_terms.specs.declared.workers.MemberState.{MemberState}
@@ -24,11 +21,9 @@ use Rattle.hub_terms.specs.Members.{MembersState, due_member, least_of, live_cou
 use Rattle.hub_terms.specs.UnderWay.{order_epoch}
 use Rattle.hub_terms.specs.Inboxes.{InboxesState, with_drained, with_updates}
 use Rattle.hub_terms.specs.HubInStep.{IsHubInStep, join_count}
-use Rattle.hub_terms.specs.Hubs.{HubState, Turn, after_turn, order_at, reported_at, stop, turn_of, wait, work, worker_at, worker_count}
+use Rattle.hub_terms.specs.Hubs.{HubState, after_turn, order_at, reported_at, work, worker_at, worker_count}
 use Rattle.hub_terms.specs.HubEvents.{absorption, after_answer, after_join, after_loss, answer_taken, answer_to, foreign_of}
 use Rattle.list_laws.proofs.Lists.{count_by_map, counted_less, counted_more}
-use Rattle.hub_laws.proofs.Workers.{count_tasked, re_tasked}
-use Rattle.hub_laws.proofs.HubGave.{turn_by}
 use Rattle.hub_laws.proofs.HubTook.{reported_hub, reported_is, reported_order, right_answer, stepped_hub, stepped_is, stepped_order, stepped_worker}
 use Rattle.driver_laws.specs.Turns.{joins_left, losses_left, most_joins, most_rounds, reports_left, rounds_left, rounds_of, work_left}
 

@@ -25,9 +25,10 @@ use Rattle.driver_laws.specs.Seats.{HasRisenBy, ended_count, naming}
 
 -- ---- what is the same however it ended
 
--- No count of the list has fallen. Each stops at its last value.
-abbrev pub NoneFell : List ℕ → List ℕ → Type 0
-NoneFell before now = (k : ℕ) → HasRisenBy 0 (slice_index before k) (slice_index now k)
+-- There are as many counts as before, and none has fallen. Each stops at its last value.
+pub record NoneFell (before now : List ℕ) : Type 0 where
+  pub places : length now ≡ length before
+  pub each : (k : ℕ) → HasRisenBy 0 (slice_index before k) (slice_index now k)
 
 -- the links that were retired since
 abbrev pub retired_since : NurseryView → NurseryView → List Retired

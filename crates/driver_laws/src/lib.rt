@@ -4,6 +4,8 @@
 
 mod endings;
 mod job;
+mod laws;
 
 pub use endings::{Finished, Stop};
 pub use job::Job;
+pub use laws::losses_are_ends;

@@ -222,7 +222,7 @@ fn add_all(
 }
 
 impl SilentNursery {
-    ghost use Rattle.std.specs.Prelude.{◌≡◌, false};
+    ghost use Rattle.std.specs.Prelude.{◌≡◌, false, replicate};
     ghost use Rattle.link_calls.specs.Silent.{CarryValues};
 
     /// A nursery of which nothing is lent. The answers are handed on from the last one to the first; then comes the broken
@@ -231,6 +231,7 @@ impl SilentNursery {
         requires { CarryValues answers.items }
         ensures home { result.lent ≡ false }
         ensures silent { result.tells ≡ false }
+        ensures starts { result.starts ≡ replicate 64 0 }
     {
         SilentNursery {
             alloc,

@@ -181,21 +181,15 @@ fn assert_replayed<R: Abort + Threads + Sync>(
     assert_eq!(rt; out.as_slice(), recorded.output.as_slice(), "by {most}");
 }
 
-/// How a worker ends that is served with these bytes, 11 a call.
-fn served<R: Threads + Sync>(rt: &R, alloc: Global, input: Vec<u8>, sink: &mut SureSink) -> ServeEnd {
-    let mut source = SureSource::new(input, 11);
-    serve(rt, alloc, &mut source, sink)
-}
-
 /// Asserts that a worker that is served over a source and a sink answers so.
 fn assert_served<R: Abort + Threads + Sync>(
     rt: &R,
     alloc: Global,
     recorded: &Recorded,
 ) -> Result<(), Memory> {
-    let input = recorded.input.as_slice().to_vec(alloc)?;
+    let mut source = SureSource::new(recorded.input.as_slice().to_vec(alloc)?, 11);
     let mut sink = SureSink::new(alloc, 3);
-    assert_eq!(rt; served(rt, alloc, input, &mut sink), ServeEnd::End);
+    assert_eq!(rt; serve(rt, alloc, &mut source, &mut sink), ServeEnd::End);
     assert_eq!(rt; sink.bytes(), recorded.output.as_slice());
     Ok(())
 }

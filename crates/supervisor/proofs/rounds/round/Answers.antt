@@ -1,4 +1,4 @@
-use Rattle.std.proofs.Common.{◌≡◌, ◌<◌, ◌≤◌, ◌∙◌, arith}
+use Rattle.std.proofs.Common.{◌<◌, ◌∙◌, arith}
 use Rattle.hub_terms.specs.Hubs.{worker_count}
 use Rattle.driver_laws.proofs.Stays.{run_on, turn_kept, turn_run}
 use Rattle.driver_laws.proofs.Tune.{count_same, marks_set, moved_more, round_nearer, tune_at, tune_set}

@@ -3,15 +3,13 @@ use Rattle.std.specs.Prelude.{Result, Ok, Err, IfOk, IfErr}
 use Rattle.std.specs.Option.{option_map}
 use Rattle.px_base.specs.Parts.{block_cuts}
 use Rattle.hub_terms.specs.Jobs.{job_of}
-use Rattle.hub_terms.specs.Systems.{opening_system}
 use Rattle.driver_laws.specs.declared.endings.Finished.{Finished}
 use Rattle.driver_laws.specs.declared.endings.Stop.{Stop}
 use Rattle.driver_laws.specs.Endings.{HasStopped, IsFinished, IsOutcome, keeps_links}
 use Rattle.driver_laws.specs.Jobs.{vertices}
-use Rattle.driver_laws.specs.Turns.{IsSameRun}
 use Rattle.driver_laws.proofs.Ended.{IsEnding, begun_run, goes_back, has_stopped, is_back, is_finished, not_lent}
-use Rattle.driver_laws.proofs.Freed.{are_back, are_released, links_own}
-use Rattle.driver_laws.proofs.Opening.{blocks_count, job_tune}
+use Rattle.driver_laws.proofs.Freed.{are_released, links_own}
+use Rattle.driver_laws.proofs.Opening.{job_tune}
 use Rattle.supervisor.proofs.serial.supervise_serial.Goals as goal
 
 pub rounds-requires-clause-tune : goal.rounds-requires-clause-tune
@@ -82,7 +80,7 @@ returns-clause-stopped g c = by_result c.outcome_of-outcome.result c.outcome_of-
 
 pub returns-clause-back : goal.returns-clause-back
 returns-clause-back g c = is_back c.args.job.now (g.N.Nursery.shown c.args.nursery.now) (g.N.Nursery.shown c.lend.new.self) (g.N.Nursery.shown c.take_back.new.self) c.rounds.new.system (map g.N.S.Spawner.shown c.rounds.new.spawners.items)
-        (map g.N.S.Spawner.shown c.release_all.new.spawners.items) (map (option_map g.N.S.L.Link.shown) c.rounds.new.links.items) (map g.N.S.Spawner.shown c.in-Ok-lend.spawners.items) c.keeps_links.result (ended g c) c.take_back.ensures
+    (map g.N.S.Spawner.shown c.release_all.new.spawners.items) (map (option_map g.N.S.L.Link.shown) c.rounds.new.links.items) (map g.N.S.Spawner.shown c.in-Ok-lend.spawners.items) c.keeps_links.result (ended g c) c.take_back.ensures
 
 pub returns-in_default-lend-clause-back : goal.returns-in_default-lend-clause-back
 returns-in_default-lend-clause-back g c = not_lent (g.N.Nursery.shown c.args.nursery.now) (g.N.Nursery.shown c.lend.new.self) _ c.requires.none_lent c.in_default-lend.ensures.err

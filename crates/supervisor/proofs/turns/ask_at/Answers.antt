@@ -1,4 +1,4 @@
-use Rattle.std.proofs.Common.{◌≡◌, ◌∙◌, ap, sym}
+use Rattle.std.proofs.Common.{◌∙◌, ap, sym}
 use Rattle.std.specs.Prelude.{Ok}
 use Rattle.system_core.specs.Promises.{IsHandedOut}
 use Rattle.driver_laws.proofs.Fitting.{gave_fits}

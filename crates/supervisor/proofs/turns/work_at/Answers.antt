@@ -1,11 +1,9 @@
 use Rattle.std.proofs.Common.{◌≡◌, Err, None, Some, ap}
 use Rattle.std.specs.Option.{option_map}
-use Rattle.px_base.specs.declared.wire.Broken.{Broken}
 use Rattle.px_base.specs.declared.wire.Broken.TheVariants as broken
 use Rattle.px_base.specs.declared.wire.LossKind.TheVariants.{Ended, Broke}
 use Rattle.hub_terms.specs.declared.stops.Halt.TheVariants.{Memory}
 use Rattle.hub_terms.specs.Systems.{halt, lost, state_after}
-use Rattle.driver_laws.proofs.Fitting.{IsCause}
 use Rattle.driver_laws.proofs.Taking.{honest_answer, is_asked, tells_peer, took_fits, took_idle}
 use Rattle.driver_laws.proofs.Moves.{Replied, after_same, answered_replied, broke_cause, ended_cause, gave_up_replied, lost_replied, refused_same}
 use Rattle.supervisor.proofs.turns.work_at.Goals as goal

@@ -28,7 +28,7 @@ CarryValues answers = All AnswersValues answers
 
 -- what a link's fields mean
 abbrev pub link_view : link.Inside → LinkView
-link_view l = record { worker = l.worker; mark = link_mark; peer = None; calls = 0; reports = 0; alive = l.alive; ends = l.ends; refused = None }
+link_view l = record { worker = l.worker; mark = link_mark; peer = None; calls = 0; reports = 0; alive = l.alive; ends = l.ends; refused = if l.alive then None else l.broken }
 
 -- what a spawner's fields mean
 abbrev pub spawner_view : spawner.Inside → SpawnerView

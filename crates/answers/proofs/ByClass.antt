@@ -1,6 +1,7 @@
 -- The answer of a program, class by class.
-use Rattle.std.proofs.Common.{◌≡◌, ℕ, ◌<◌, ◌≤◌, ◌^◌, false, true, List, length, refl, sym, subst}
+use Rattle.std.proofs.Common.{◌≡◌, ℕ, ◌<◌, ◌≤◌, false, true, List, length, refl, sym, subst}
 use Rattle.std.specs.Prelude.{All, Result, Ok, Err, IsOk, MatchResult}
+use Rattle.px_base.specs.declared.TheConstants.{MOST_READS}
 use Rattle.px_base.specs.declared.graph.Edge.{Edge}
 use Rattle.px_base.specs.declared.graph.Read.{Read}
 use Rattle.px_base.specs.declared.graph.ReadGraph.{ReadGraph}
@@ -49,7 +50,7 @@ ordered_by form (reads_kind.Earlier rank) n edges graph promise ends is = are_or
 ordered : (p : Program) (graph : ReadGraph) → class_of p ≡ Ok SelfStabilising → IsBuilt p graph → IsOrdered graph.rows
 ordered p graph is built = ordered_by p.form p.reads graph.n built.edges graph (promise_kept p SelfStabilising is) built.ends built.graph
 
-exists_as : (p : Program) (graph : ReadGraph) (starts : List ℕ) (class : Class) → class_of p ≡ Ok class → IsBuilt p graph → RowsFit (length graph.rows) graph.rows → read_count graph.rows ≤ 2 ^ 25 → IsValueList (length graph.rows) starts →
+exists_as : (p : Program) (graph : ReadGraph) (starts : List ℕ) (class : Class) → class_of p ≡ Ok class → IsBuilt p graph → RowsFit (length graph.rows) graph.rows → read_count graph.rows ≤ MOST_READS → IsValueList (length graph.rows) starts →
     (x : List ℕ) × AnswersAs class p graph.rows starts x
 exists_as p graph starts LocallyCorrecting is built fits few values = program_exists p graph.rows starts is fits values
 exists_as p graph starts SelfStabilising is built fits few values = one_exists p graph.rows starts (ordered p graph is built) fits values few
@@ -61,7 +62,7 @@ only_as p graph starts x y LocallyCorrecting is built h k = one_consistent p gra
 only_as p graph starts x y SelfStabilising is built h k = one_fixed p graph.rows starts x y (ordered p graph is built) h k
 only_as p graph starts x y GloballyCorrecting is built h k = one_core (reads_needed p.fold) graph.rows x y h k
 
-pub exists : (p : Program) (graph : ReadGraph) (starts : List ℕ) → IsOk (class_of p) → IsBuilt p graph → RowsFit graph.n graph.rows → read_count graph.rows ≤ 2 ^ 25 → IsValueList graph.n starts →
+pub exists : (p : Program) (graph : ReadGraph) (starts : List ℕ) → IsOk (class_of p) → IsBuilt p graph → RowsFit graph.n graph.rows → read_count graph.rows ≤ MOST_READS → IsValueList graph.n starts →
     (x : List ℕ) × IsAnswer p graph.rows starts x
 exists p graph starts accepted built fits few values = by_class (class_of p) refl accepted
   where

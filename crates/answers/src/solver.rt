@@ -1,4 +1,6 @@
-ghost use Rattle.std.specs.Prelude.{◌≡◌, ◌≤◌, ◌^◌, IfOk, IsOk};
+//! The answer of a program of any class, by the solver of its class.
+ghost use Rattle.std.specs.Prelude.{◌≡◌, ◌≤◌, IfOk, IsOk};
+ghost use Rattle.px_base.specs.declared.TheConstants.{MOST_READS, MOST_VERTICES};
 ghost use Rattle.px_base.specs.Answers.{IsAnswer, reads_needed};
 ghost use Rattle.px_base.specs.Classes.{class_of};
 ghost use Rattle.px_base.specs.Graphs.{RowsFit, read_count};
@@ -37,8 +39,8 @@ pub fn solve(
     requires accepted { IsOk (class_of program.now) }
     requires built { IsBuilt program.now graph.now }
     requires rows { RowsFit graph.now.n graph.now.rows }
-    requires vertices { graph.now.n ≤ 2 ^ 22 }
-    requires reads { read_count graph.now.rows ≤ 2 ^ 25 }
+    requires vertices { graph.now.n ≤ MOST_VERTICES }
+    requires reads { read_count graph.now.rows ≤ MOST_READS }
     requires starts { IsValueList graph.now.n starts.now }
     ensures { IfOk result (λ x. IsAnswer program.now graph.now.rows starts.now x.items) }
 {

@@ -1,3 +1,4 @@
+//! The class table: which class a program has, or why it has none.
 ghost use Rattle.std.specs.Prelude.{◌≡◌, if◌then◌else◌};
 ghost use Rattle.px_base.specs.Classes.{class_of, counts_reads, is_core_form, is_same, is_simple, keeps, reads_all, starts_each_at_one};
 ghost use Rattle.px_base.specs.Core.{core_form};

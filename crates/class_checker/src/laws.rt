@@ -1,3 +1,4 @@
+//! What a class promises, and what a refusal shows.
 ghost use Rattle.std.specs.Prelude.{◌≡◌, Ok, Err};
 ghost use Rattle.px_base.specs.declared.program.Program.{Program as ProgramData};
 ghost use Rattle.px_base.specs.declared.program.Class.{Class as ClassData};

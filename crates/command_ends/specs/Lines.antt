@@ -1,6 +1,7 @@
 -- The line that each way to stop is reported by.
 use Rattle.std.specs.Prelude.{◌≡◌, ℕ, ◌⊎◌, List, [], ◌∷◌, ◌++◌, codes, decimal, Option}
 use Rattle.std.specs.Io.KnownBytes.{Appends}
+use Rattle.px_base.specs.declared.TheConstants.{MOST_EDGES, MOST_VERTICES}
 use Rattle.px_base.specs.declared.program.Refused.{Refused}
 use Rattle.px_base.specs.declared.program.Refused.TheVariants as refused
 use Rattle.px_base.specs.declared.row_fault.RowFault.{RowFault}
@@ -24,8 +25,8 @@ abbrev pub input_text : EdgeFault → List ℕ
 input_text (fault.Missing line) = numbered (codes "line ") line (codes ": vertex missing")
 input_text (fault.BadId line) = numbered (codes "line ") line (codes ": bad vertex")
 input_text (fault.BadWeight line) = numbered (codes "line ") line (codes ": bad weight")
-input_text fault.TooManyVertices = codes "more than 4194304 vertices"
-input_text fault.TooManyEdges = codes "more than 16777216 edge lines"
+input_text fault.TooManyVertices = numbered (codes "more than ") MOST_VERTICES (codes " vertices")
+input_text fault.TooManyEdges = numbered (codes "more than ") MOST_EDGES (codes " edge lines")
 input_text fault.TooLong = codes "more than 4294967295 bytes"
 input_text fault.ReadFault = codes "read fault"
 input_text fault.Memory = codes "out of memory"

@@ -1,3 +1,4 @@
+//! Appends a text that stands in pieces, so that it takes no memory.
 ghost use Rattle.std.specs.Prelude.{◌≡◌, ◌≢◌, ◌≤◌, OnOk, OnErr, Err, flat_map};
 ghost use Rattle.std.specs.Io.KnownBytes.{Appends};
 ghost use Rattle.px_io.specs.Causes.{Rose, AppendsPrefix};

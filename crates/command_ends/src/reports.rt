@@ -1,3 +1,4 @@
+//! The line that says why a command stopped.
 ghost use Rattle.std.specs.Prelude.{◌≤◌, ◌++◌, decimal, flat_map};
 ghost use Rattle.command_ends.specs.Lines.{IsLineAdded, frame_text, input_text, line_of, numbered, program_text, refused_text, row_fault_text, stop_line};
 
@@ -6,7 +7,7 @@ use crate::{FrameFault, Stop};
 use command_words::ProgramFault;
 use edge_reader::EdgeFault;
 use itoa::Buffer;
-use px_base::{Refused, RowFault};
+use px_base::{MOST_EDGES, MOST_VERTICES, Refused, RowFault};
 use px_io::Sink;
 
 /// Appends the pieces. Nothing comes of a fault of the sink: there is nowhere else to report it to.
@@ -64,8 +65,17 @@ fn add_input<F: Sink>(faults: &mut F, fault: EdgeFault)
         EdgeFault::Missing { line } => add_numbered(faults, b"line ", line, b": vertex missing"),
         EdgeFault::BadId { line } => add_numbered(faults, b"line ", line, b": bad vertex"),
         EdgeFault::BadWeight { line } => add_numbered(faults, b"line ", line, b": bad weight"),
-        EdgeFault::TooManyVertices => add_line(faults, b"more than 4194304 vertices"),
-        EdgeFault::TooManyEdges => add_line(faults, b"more than 16777216 edge lines"),
+        EdgeFault::TooManyVertices => {
+            add_numbered(
+                faults,
+                b"more than ",
+                u64::from(MOST_VERTICES),
+                b" vertices",
+            )
+        }
+        EdgeFault::TooManyEdges => {
+            add_numbered(faults, b"more than ", MOST_EDGES as u64, b" edge lines")
+        }
         EdgeFault::TooLong => add_line(faults, b"more than 4294967295 bytes"),
         EdgeFault::ReadFault => add_line(faults, b"read fault"),
         EdgeFault::Memory => add_line(faults, b"out of memory"),

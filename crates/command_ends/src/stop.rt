@@ -1,3 +1,4 @@
+//! Why a command stops, and its exit status.
 ghost use Rattle.std.specs.Prelude.{◌≡◌};
 ghost use Rattle.command_ends.specs.Stops.{fault_status, stop_status};
 

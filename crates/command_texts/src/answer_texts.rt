@@ -1,3 +1,4 @@
+//! The text of an answer: a line with its id and its value for each vertex.
 ghost use Rattle.std.specs.Prelude.{◌≡◌, ◌++◌, OnErr, OnOk, length};
 ghost use Rattle.px_base.specs.Text.{GrowsByPrefix, answer_line, answer_text};
 

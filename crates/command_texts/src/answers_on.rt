@@ -1,5 +1,7 @@
-ghost use Rattle.std.specs.Prelude.{◌≡◌, ◌≤◌, ◌^◌, IfOk, IsOk, None, Ok, length};
+//! The answer text of a program on an edge list, found by workers or plainly.
+ghost use Rattle.std.specs.Prelude.{◌≡◌, ◌≤◌, IfOk, IsOk, None, Ok, length};
 ghost use Rattle.std.specs.List.Sorted.{IsStrictlyIncreasing};
+ghost use Rattle.px_base.specs.declared.TheConstants.{MOST_READS, MOST_VERTICES};
 ghost use Rattle.px_base.specs.Values.{IsValueList};
 ghost use Rattle.px_base.specs.AnswerTexts.{IsAnswerOn};
 ghost use Rattle.px_base.specs.Answers.{IsAnswer};
@@ -42,8 +44,8 @@ fn solved<R: Threads + Sync>(
     requires way { WayFits way program.now }
     requires built { IsBuilt program.now graph }
     requires rows { RowsFit graph.n graph.rows }
-    requires vertices { graph.n ≤ 2 ^ 22 }
-    requires reads { read_count graph.rows ≤ 2 ^ 25 }
+    requires vertices { graph.n ≤ MOST_VERTICES }
+    requires reads { read_count graph.rows ≤ MOST_READS }
     requires starts { IsValueList graph.n starts.now }
     ensures { IfOk result (λ values. IsAnswer program.now graph.rows starts.now values.items) }
 {

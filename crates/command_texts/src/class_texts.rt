@@ -1,3 +1,4 @@
+//! The text of a class.
 ghost use Rattle.std.specs.Prelude.{◌≡◌, IfOk};
 ghost use Rattle.command_texts.specs.Texts.{class_text};
 

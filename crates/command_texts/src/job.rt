@@ -1,3 +1,4 @@
+//! The job of each command whose program has a class.
 ghost use Rattle.std.specs.Prelude.{◌≡◌, IfErr, IfOk, IsTrue, Ok};
 ghost use Rattle.px_base.specs.declared.program.Class.TheVariants.{LocallyCorrecting};
 ghost use Rattle.px_base.specs.Classes.{class_of};
@@ -17,24 +18,34 @@ use px_base::{Class, Id, Items, Program, Start};
 pub enum Job {
     /// Solve by workers.
     Run {
+        /// The program, which is locally correcting.
         program: Program,
+        /// The ids of the sources, as often as they were given.
         sources: Items<Id>,
+        /// How many workers there are, 1 to 64.
         workers: u32,
     },
     /// Solve plainly, on one thread.
     Solve {
+        /// The program, of any class.
         program: Program,
+        /// The ids of the sources, as often as they were given.
         sources: Items<Id>,
+        /// Whether each weight is 1, whatever the input says.
         unweighted: bool,
     },
     /// Tell the class.
     Classify {
+        /// The class of the program.
         class: Class,
     },
     /// Count what each worker would have.
     Parts {
+        /// The program, of any class.
         program: Program,
+        /// How many workers there would be, 1 to 64.
         workers: u32,
+        /// Whether each weight is 1, whatever the input says.
         unweighted: bool,
     },
 }

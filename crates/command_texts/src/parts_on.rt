@@ -1,3 +1,4 @@
+//! The text of the parts of a program's graph.
 ghost use Rattle.std.specs.Prelude.{◌≤◌, IfOk, List};
 ghost use Rattle.px_base.specs.Lines.{EdgeListFits, IdEdge, IsEdgeListOf};
 ghost use Rattle.px_base.specs.RowTexts.{IsRowProgram};

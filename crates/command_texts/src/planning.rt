@@ -1,3 +1,4 @@
+//! What a command leaves to do, or why it stops before its input is read.
 ghost use Rattle.std.specs.Prelude.{◌≡◌, IfErr, IfOk, IfSome, IsTrue};
 ghost use Rattle.command_words.specs.CommandFits.{CommandFits};
 ghost use Rattle.command_texts.specs.Jobs.{JobFits};

@@ -1,3 +1,4 @@
+//! The text that a job comes to on its input.
 ghost use Rattle.std.specs.Prelude.{◌≡◌, ◌≢◌, ◌≤◌, ◌&&◌, false, true, not, ℕ, IsTrue, Err, IfOk, Ok, OnErr, OnOk, List};
 ghost use Rattle.std.specs.List.Sorted.{IsStrictlyIncreasing};
 ghost use Rattle.px_base.specs.Lines.{EdgeListFits, IdEdge, IsEdgeListOf};
@@ -145,6 +146,7 @@ fn text_of_input<R: Threads + Sync, S: Source>(
     ensures no_fault { result ≢ Err (Stop.Input EdgeFault.ReadFault) → S.faults source.new ≡ S.faults source.old }
     ensures ended { OnOk result (Rose (S.ends_told source.old) (S.ends_told source.new)) }
     ensures unknown { (id : ℕ) → result ≡ Err (Stop.UnknownSource id) → Rose (S.ends_told source.old) (S.ends_told source.new) }
+    ensures counted { result ≡ Err (Stop.Input EdgeFault.TooManyVertices) → Rose (S.ends_told source.old) (S.ends_told source.new) }
     ensures not_ended { result ≡ Err (Stop.Input EdgeFault.ReadFault) → S.ends_told source.new ≡ S.ends_told source.old }
     ensures ended_once { RoseAtMostOnce (S.ends_told source.old) (S.ends_told source.new) }
 {
@@ -171,6 +173,7 @@ pub fn job_text<R: Threads + Sync, S: Source>(
     ensures no_fault { result ≢ Err (Stop.Input EdgeFault.ReadFault) → S.faults source.new ≡ S.faults source.old }
     ensures ended { reads_source (Ok job.now) ≡ true → OnOk result (Rose (S.ends_told source.old) (S.ends_told source.new)) }
     ensures unknown { (id : ℕ) → reads_source (Ok job.now) ≡ true → result ≡ Err (Stop.UnknownSource id) → Rose (S.ends_told source.old) (S.ends_told source.new) }
+    ensures counted { result ≡ Err (Stop.Input EdgeFault.TooManyVertices) → Rose (S.ends_told source.old) (S.ends_told source.new) }
     ensures not_ended { result ≡ Err (Stop.Input EdgeFault.ReadFault) → S.ends_told source.new ≡ S.ends_told source.old }
     ensures ended_once { RoseAtMostOnce (S.ends_told source.old) (S.ends_told source.new) }
 {

@@ -1,5 +1,7 @@
-ghost use Rattle.std.specs.Prelude.{◌≡◌, ◌≤◌, ◌<◌, ◌^◌, true, false, IfOk, IfSome, IfNone, None, Some, length};
+//! The positions of sources that are given by their ids.
+ghost use Rattle.std.specs.Prelude.{◌≡◌, ◌≤◌, ◌<◌, true, false, IfOk, IfSome, IfNone, None, Some, length};
 ghost use Rattle.std.specs.List.Sorted.{IsStrictlyIncreasing};
+ghost use Rattle.px_base.specs.declared.TheConstants.{MOST_VERTICES};
 ghost use Rattle.px_base.specs.Values.{is_listed, place_of};
 ghost use Rattle.px_base.specs.Starts.{first_unknown, positions_of};
 
@@ -35,7 +37,7 @@ pub fn unknown_source(ids: &[Id], sources: &[Id]) -> Option<Id>
 /// The position of the vertex with this id.
 fn position_of(ids: &[Id], id: Id) -> Pos
     requires rising { IsStrictlyIncreasing ids.now }
-    requires few { length ids.now ≤ 2 ^ 22 }
+    requires few { length ids.now ≤ MOST_VERTICES }
     requires known { is_listed ids.now id ≡ true }
     ensures { result ≡ place_of ids.now id }
 {
@@ -52,7 +54,7 @@ fn position_of(ids: &[Id], id: Id) -> Pos
 #[tactic(auto, using(crate::proofs::LookedUp::each_known, crate::proofs::LookedUp::positions_more))]
 pub fn positions(alloc: Global, ids: &[Id], sources: &[Id]) -> Result<Vec<Pos>, Memory>
     requires rising { IsStrictlyIncreasing ids.now }
-    requires few { length ids.now ≤ 2 ^ 22 }
+    requires few { length ids.now ≤ MOST_VERTICES }
     requires known { first_unknown ids.now sources.now ≡ None }
     ensures { IfOk result (λ found. found.items ≡ positions_of ids.now sources.now) }
 {

@@ -1,3 +1,4 @@
+//! The items of a command line that were accepted so far.
 ghost use Rattle.std.specs.Prelude.{◌≡◌, ◌+◌, ◌^◌, ◌<◌, ◌≤◌, IfSome};
 ghost use Rattle.command_words.specs.CommandTable.{line_of};
 ghost use Rattle.command_words.specs.Judging.{accept, fits_place, item_with, with_flag, with_number};
@@ -9,8 +10,11 @@ use crate::table::{CommandName, FlagName, OptionName, Positional, positional_at}
 /// The options and flags that are given, and how many positionals there are.
 #[derive(Clone, Copy)]
 pub struct Found {
+    /// The number of `--workers`, where it is given.
     pub workers: Option<u32>,
+    /// Whether `--unweighted` is given.
     pub unweighted: bool,
+    /// How many positionals there are, PROGRAM among them.
     pub positionals: usize,
 }
 

@@ -13,8 +13,11 @@ use px_base::Words;
 /// What an item is. A positional is the word itself.
 #[derive(Clone, Copy)]
 pub enum Kind {
+    /// An option with its number.
     Option(OptionName, u32),
+    /// A flag.
     Flag(FlagName),
+    /// A word that doesn't begin with `-`.
     Positional,
 }
 

@@ -1,3 +1,4 @@
+//! Whether the words after the name of a command are right.
 ghost use Rattle.std.specs.Prelude.{◌≡◌, ◌<◌, drop, length};
 ghost use Rattle.command_words.specs.CommandTable.{line_of};
 ghost use Rattle.command_words.specs.CommandWords.{items_of};

@@ -1,3 +1,4 @@
+//! Numbers in the words of a command line.
 ghost use Rattle.std.specs.Prelude.{◌≡◌, ◌≤◌, IfSome, is_some, true};
 ghost use Rattle.px_base.specs.Text.{number_of};
 ghost use Rattle.command_words.specs.CommandTable.{number_in, source_range};
@@ -10,7 +11,9 @@ const MOST_DIGITS: usize = 20;
 /// The numbers from the least to the greatest.
 #[derive(Clone, Copy, Debug, PartialEq, Eq)]
 pub struct NumberRange {
+    /// The least of them.
     pub least: u32,
+    /// The greatest of them.
     pub greatest: u32,
 }
 

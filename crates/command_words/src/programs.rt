@@ -1,3 +1,4 @@
+//! The program that the word PROGRAM names or spells.
 ghost use Rattle.std.specs.Prelude.{◌≡◌};
 ghost use Rattle.px_base.specs.Values.{is_listed};
 ghost use Rattle.command_words.specs.CommandFits.{ProgramFits};

@@ -1,3 +1,4 @@
+//! Reads a command from the words of a command line.
 ghost use Rattle.std.specs.Prelude.{◌≡◌, ◌<◌, ◌-◌, IfOk, IfSome, IsSome, OnErr, Some, length, drop};
 ghost use Rattle.command_words.specs.CommandFits.{CommandFits, ProgramFits};
 ghost use Rattle.command_words.specs.CommandTable.{line_of};

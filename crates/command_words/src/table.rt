@@ -7,30 +7,41 @@ ghost use Rattle.command_words.specs.Judging.{positional_at};
 
 use crate::numbers::NumberRange;
 
+/// A command, by the first word of the command line.
 #[derive(Clone, Copy, Debug, PartialEq, Eq)]
 pub enum CommandName {
+    /// `run`.
     Run,
+    /// `solve`.
     Solve,
+    /// `classify`.
     Classify,
+    /// `parts`.
     Parts,
+    /// `worker`.
     Worker,
 }
 
 /// An option has a number.
 #[derive(Clone, Copy, Debug, PartialEq, Eq)]
 pub enum OptionName {
+    /// `--workers`, from 1 to 64.
     Workers,
 }
 
+/// A flag stands alone, without a number.
 #[derive(Clone, Copy, Debug, PartialEq, Eq)]
 pub enum FlagName {
+    /// `--unweighted`.
     Unweighted,
 }
 
 /// What a positional is.
 #[derive(Clone, Copy, Debug, PartialEq, Eq)]
 pub enum Positional {
+    /// PROGRAM: a built-in name or a row.
     Program,
+    /// SOURCE: the id of a vertex, below 2^32.
     Source,
 }
 

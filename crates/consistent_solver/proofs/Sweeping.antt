@@ -18,8 +18,14 @@ use Rattle.px_base.proofs.Gathers.{below_least, least_below_each, least_below_st
 use Rattle.consistent_solver.specs.CoreLists.{IsBelow, IsCoreConsistent, IsGreatestCoreConsistent, gathered_at}
 use Rattle.consistent_solver.specs.Sweeps.{AreTold, IsLowered, IsMarked, IsSettled, IsSwept, TellsNothing, core_edge_values, lowered_at}
 use Rattle.consistent_solver.proofs.Below.{least_gathered, gathered_grows, below_starts}
-use Rattle.consistent_solver.proofs.Placing.{read_inside}
 use Rattle.consistent_solver.proofs.Turning.{greatest_from, no_mex, turned}
+
+-- a row with a read is one of the rows
+pub read_inside : (rows : List (List Read)) (u : ℕ) (r : Read) → Contains (row_at rows u) r → u < length rows
+read_inside rows u r found = elim (cases_lt u (length rows)) [
+  | inl low ↦ low
+  | inr past ↦ absurd (omega (arith, found.1, ap length (get_or_past rows u [] past)))
+]
 
 -- what is at most the least from one start, and at most another start, is at most the least from that
 least_from : (a s t : ℕ) (items : List ℕ) → a ≤ t → a ≤ least s items → a ≤ least t items

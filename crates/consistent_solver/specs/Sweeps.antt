@@ -9,7 +9,6 @@ use Rattle.px_base.specs.Values.{IsValueList, IsWeight}
 use Rattle.px_base.specs.Graphs.{row_at}
 use Rattle.px_base.specs.Rules.{least}
 use Rattle.px_base.specs.Core.{core_edge_value}
-use Rattle.consistent_solver.specs.declared.readers.Reader.{Reader}
 use Rattle.consistent_solver.specs.declared.waiting.Waiting.{Waiting}
 use Rattle.consistent_solver.specs.CoreLists.{IsBelow, IsCoreConsistent}
 use Rattle.consistent_solver.specs.Readers.{entry_at}
@@ -72,11 +71,11 @@ pub record IsWaitingList (n : ℕ) (waiting : Waiting) : Type 0 where
 
 -- What a list becomes once the value c was told to the first of these readers, so many: each of them has at most the edge
 -- value of c. Who fell has such an edge value and is marked, and no mark is lost.
-pub record HasTold (core : CoreProgram) (c : ℕ) (entries : List Reader) (count : ℕ) (before after : List ℕ) (marks_before marks_after : List Bool) : Type 0 where
+pub record HasTold (core : CoreProgram) (c : ℕ) (entries : List Read) (count : ℕ) (before after : List ℕ) (marks_before marks_after : List Bool) : Type 0 where
   pub one_each : length after ≡ length before
   pub lower : (u : ℕ) → slice_index after u ≤ slice_index before u
-  pub told : (k : ℕ) → k < count → slice_index after (entry_at entries k).reader ≤ core_edge_value core c (entry_at entries k).weight
+  pub told : (k : ℕ) → k < count → slice_index after (entry_at entries k).source ≤ core_edge_value core c (entry_at entries k).weight
   pub due : (u : ℕ) → (slice_index after u ≡ slice_index before u)
-      ⊎ ((k : ℕ) × (k < count) × ((entry_at entries k).reader ≡ u) × (slice_index after u ≡ core_edge_value core c (entry_at entries k).weight))
+      ⊎ ((k : ℕ) × (k < count) × ((entry_at entries k).source ≡ u) × (slice_index after u ≡ core_edge_value core c (entry_at entries k).weight))
   pub fell : (u : ℕ) → (slice_index after u ≡ slice_index before u) ⊎ IsMarked marks_after u
   pub kept : (u : ℕ) → IsMarked marks_before u → IsMarked marks_after u

@@ -1,13 +1,14 @@
+//! Settles values by following changes: whoever falls tells those who read it.
 ghost use Rattle.std.specs.Prelude.{◌≡◌, ◌⊎◌, ◌+◌, ◌<◌, ◌≤◌, ℕ, All, IfOk, IsFalse, OnOk, length, slice_index, sum};
 ghost use Rattle.px_base.specs.Values.{IsValue, IsValueList};
 ghost use Rattle.px_base.specs.Classes.{is_mex};
 ghost use Rattle.px_base.specs.Graphs.{RowsFit};
 ghost use Rattle.consistent_solver.specs.Sweeps.{AreTold, HasTold, IsMarked, IsSettled, IsWaitingList, TellsNothing};
 
-use crate::readers::{Reader, Readers};
 use crate::sweeps::sweep_some;
 use crate::waiting::Waiting;
-use px_base::{CoreProgram, Items, Memory, Read, TOP, Value};
+use px_base::{CoreProgram, Memory, Row, Rows, TOP, Value};
+use row_blocks::transposed;
 use std::alloc::Global;
 use value_laws::EdgeRule;
 
@@ -15,22 +16,23 @@ use value_laws::EdgeRule;
 fn tell(
     core: &CoreProgram,
     value: Value,
-    readers: &[Reader],
+    readers: &Row<'_>,
     values: &mut [Value],
     waiting: &mut Waiting,
 ) -> Result<(), Memory>
     requires value { IsValue value }
-    requires readers { All (λ e. e.reader < length values.old) readers.now }
+    requires readers { All (λ e. e.source < length values.old) readers.now }
     requires list { IsWaitingList (length values.old) waiting.old }
     ensures told { OnOk result (HasTold core.now value readers.now (length readers.now) values.old values.new waiting.old.marks.items waiting.new.marks.items) }
     ensures list { OnOk result (IsWaitingList (length values.old) waiting.new) }
     ensures falls { OnOk result (sum values.new + length waiting.new.queue.items ≤ sum values.old + length waiting.old.queue.items) }
 {
-    for entry in readers {
-        let offered = core.value(value, u64::from(entry.weight));
-        if offered < values[entry.reader as usize] {
-            values[entry.reader as usize] = offered;
-            waiting.put(entry.reader)?;
+    for k in 0..readers.len() {
+        let entry = readers.read(k);
+        let offered = core.value(value, entry.weight);
+        if offered < values[entry.source as usize] {
+            values[entry.source as usize] = offered;
+            waiting.put(entry.source)?;
         }
     }
     Ok(())
@@ -42,7 +44,7 @@ fn follow(
     alloc: Global,
     core: &CoreProgram,
     n: u32,
-    rows: &[Items<Read>],
+    rows: &Rows,
     values: &mut [Value],
     marks: Vec<bool>,
 ) -> Result<(), Memory>
@@ -54,13 +56,13 @@ fn follow(
     requires fold { IsFalse (is_mex core.now.program.fold) }
     ensures { OnOk result (IsSettled core.now rows.now values.old values.new) }
 {
-    let readers = Readers::new(alloc, n, rows)?;
+    let readers = transposed(alloc, n, rows)?;
     let mut waiting = Waiting::of(alloc, marks)?;
     while let Some(v) = waiting.take() {
         tell(
             core,
             values[v as usize],
-            readers.of(v),
+            &readers.row(v as usize),
             values,
             &mut waiting,
         )?;
@@ -95,7 +97,7 @@ pub fn settle(
     alloc: Global,
     core: &CoreProgram,
     n: u32,
-    rows: &[Items<Read>],
+    rows: &Rows,
     values: &mut [Value],
 ) -> Result<(), Memory>
     requires size { length rows.now ≡ n }

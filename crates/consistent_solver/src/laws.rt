@@ -1,3 +1,4 @@
+//! Laws of consistent lists: there is a greatest one, and renewals lead to it.
 ghost use Rattle.std.specs.Prelude.{◌≡◌, ◌≤◌, ◌<◌, ◌↔◌, ◌⊎◌, ℕ, suc, Bool, List, All, IsFalse, IsTrue, Ok, length, map, slice_index, sum};
 ghost use Rattle.px_base.specs.declared.graph.Read.{Read as ReadData};
 ghost use Rattle.px_base.specs.declared.program.Program.{Program as ProgramData};

@@ -6,7 +6,6 @@
 
 mod following;
 mod laws;
-mod readers;
 mod solve;
 mod sweeps;
 mod waiting;

@@ -1,3 +1,4 @@
+//! The answer of a locally correcting program: the greatest consistent list.
 ghost use Rattle.std.specs.Prelude.{◌≡◌, IfOk, Ok, OnOk, length};
 ghost use Rattle.px_base.specs.declared.program.Class.TheVariants.{LocallyCorrecting};
 ghost use Rattle.px_base.specs.Values.{IsValueList};
@@ -6,7 +7,7 @@ ghost use Rattle.px_base.specs.Classes.{class_of};
 ghost use Rattle.px_base.specs.Answers.{IsGreatestConsistent};
 
 use crate::following::settle;
-use px_base::{Items, Memory, Program, Read, ReadGraph, Value};
+use px_base::{Memory, Program, ReadGraph, Rows, Value};
 use std::alloc::Global;
 use value_laws::{core_form, turn};
 
@@ -15,7 +16,7 @@ fn solve_in_place(
     alloc: Global,
     program: &Program,
     n: u32,
-    rows: &[Items<Read>],
+    rows: &Rows,
     values: &mut [Value],
 ) -> Result<(), Memory>
     requires size { length rows.now ≡ n }
@@ -36,8 +37,7 @@ fn solve_in_place(
 /// read it, first come first told. So a vertex is looked at again only where one that it reads has fallen. Where more have, sweeps
 /// over the vertices in rising order come first, 12 at most, until a sweep changes nothing; where the last of them still changes
 /// something, changes are followed from there. The list of values takes 8 bytes for each vertex, and the marks of those that fell
-/// take 1; to follow changes takes 8 bytes for each read and 8 for each vertex besides. Errors: want of memory, also where changes
-/// are to be followed over 2^32 reads or more.
+/// take 1; to follow changes takes 8 bytes for each read and 8 for each vertex besides. Errors: want of memory.
 pub fn solve_consistent(
     alloc: Global,
     graph: &ReadGraph,
@@ -50,12 +50,6 @@ pub fn solve_consistent(
     ensures { IfOk result (λ x. IsGreatestConsistent program.now graph.now.rows starts.now x.items) }
 {
     let mut values = Vec::from_slice(alloc, starts)?;
-    solve_in_place(
-        alloc,
-        program,
-        graph.n,
-        graph.rows.as_slice(),
-        values.as_mut_slice(),
-    )?;
+    solve_in_place(alloc, program, graph.n, &graph.rows, values.as_mut_slice())?;
     Ok(values)
 }

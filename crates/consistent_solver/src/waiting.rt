@@ -10,7 +10,9 @@ use std::collections::VecDeque;
 /// for each vertex of the graph.
 #[derive(Drop)]
 pub struct Waiting {
+    /// The vertices that wait, the one that came first in front.
     pub queue: VecDeque<Pos>,
+    /// Of each vertex, whether it waits.
     pub marks: Vec<bool>,
 }
 

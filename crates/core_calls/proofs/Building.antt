@@ -1,6 +1,7 @@
 -- A graph of a list of edges is built for its program, such a job is sound, and a hub is new for it.
-use Rattle.std.proofs.Common.{◌≡◌, ℕ, ◌≤◌, ◌^◌, Bool, List, length, ap, sym, ◌∙◌, subst, arith}
+use Rattle.std.proofs.Common.{◌≡◌, ℕ, ◌≤◌, Bool, List, length, ap, sym, ◌∙◌, subst, arith}
 use Rattle.std.specs.Prelude.{IsOk}
+use Rattle.px_base.specs.declared.TheConstants.{MOST_READS, MOST_VERTICES}
 use Rattle.px_base.specs.declared.graph.Read.{Read}
 use Rattle.px_base.specs.declared.program.CoreProgram.{CoreProgram}
 use Rattle.px_base.specs.Classes.{class_of}
@@ -33,7 +34,7 @@ built_on p list graph fits built = record {
 }
 
 pub is_cut_job : (p : Program) (graph : ReadGraph) (core : CoreProgram) (starts ends : List ℕ) (count : ℕ) → IsOk (class_of p) → IsRowProgram p →
-    IsBuilt p graph → graph.n ≡ count → RowsFit graph.n graph.rows → read_count graph.rows ≤ 2 ^ 25 → count ≤ 2 ^ 22 →
+    IsBuilt p graph → graph.n ≡ count → RowsFit graph.n graph.rows → read_count graph.rows ≤ MOST_READS → count ≤ MOST_VERTICES →
     IsValueList count starts → core ≡ core_form p → IsWorkerCuts graph.n ends → IsCutJob graph core starts ends
 is_cut_job p graph core starts ends count accepted numbers built size rows reads few values form cuts = record {
   sound = subst (λ (k : CoreProgram). IsSound (job_of graph k starts)) (sym form)

@@ -1,3 +1,4 @@
+//! Each graph has one k-core.
 ghost use Rattle.std.specs.Prelude.{◌≡◌, ℕ, List, length};
 ghost use Rattle.px_base.specs.declared.graph.Edge.{Edge as EdgeData};
 ghost use Rattle.px_base.specs.declared.graph.Read.{Read as ReadData};

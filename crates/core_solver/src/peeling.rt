@@ -1,10 +1,12 @@
-ghost use Rattle.std.specs.Prelude.{◌≡◌, ◌<◌, ◌≤◌, ◌^◌, [], All, IfOk, IsTrue, OnOk, length, map, slice_index};
+//! Peels off the vertices that are short of reads, until the k-core is left.
+ghost use Rattle.std.specs.Prelude.{◌≡◌, ◌<◌, ◌≤◌, [], All, IfOk, IsTrue, OnOk, length, map, slice_index};
+ghost use Rattle.px_base.specs.declared.TheConstants.{MOST_READS, MOST_VERTICES};
 ghost use Rattle.px_base.specs.Values.{is_in};
 ghost use Rattle.px_base.specs.Graphs.{RowsFit, read_count, row_at};
 ghost use Rattle.core_solver.specs.Mutual.{AreMutual};
 ghost use Rattle.core_solver.specs.Peelings.{HaveEnough, IsPeeling, all_alive, with_dead, with_read_less, with_short_dead, work_left};
 
-use px_base::{Items, Memory, Pos, Read, Value};
+use px_base::{Memory, Pos, Row, Rows, Value};
 use std::alloc::Global;
 use std::marker::Model;
 
@@ -26,27 +28,26 @@ impl Model for Peeling {
 }
 
 /// How many reads each row has.
-fn row_lengths(alloc: Global, rows: &[Items<Read>]) -> Result<Vec<u32>, Memory>
-    requires { All (λ row. length row < 2 ^ 32) rows.now }
+fn row_lengths(alloc: Global, rows: &Rows) -> Result<Vec<u32>, Memory>
     ensures { IfOk result (λ lengths. lengths.items ≡ map (λ row. length row) rows.now) }
 {
-    let lengths = rows
-        .iter()
-        .map(|row| row.as_slice().len() as u32)
-        .collect::<Vec<u32>>(alloc)?;
+    let mut lengths = Vec::with_capacity(alloc, rows.row_count())?;
+    for v in 0..rows.row_count() {
+        lengths.push(rows.row(v).len() as u32)?;
+    }
     Ok(lengths)
 }
 
 impl Peeling {
     /// All vertices are alive, and none waits.
-    pub fn new(alloc: Global, rows: &[Items<Read>]) -> Result<Peeling, Memory>
-        requires { read_count rows.now ≤ 2 ^ 25 }
+    pub fn new(alloc: Global, rows: &Rows) -> Result<Peeling, Memory>
+        requires { read_count rows.now ≤ MOST_READS }
         ensures { IfOk result (λ peeling. peeling ≡ all_alive rows.now) }
     {
         Ok(Peeling {
-            alive: vec![in alloc; 1u64; rows.len()]?,
+            alive: vec![in alloc; 1u64; rows.row_count()]?,
             counts: row_lengths(alloc, rows)?,
-            dead: Vec::with_capacity(alloc, rows.len())?,
+            dead: Vec::with_capacity(alloc, rows.row_count())?,
         })
     }
 
@@ -87,7 +88,7 @@ impl Peeling {
     }
 
     /// Peels off a vertex with this row.
-    fn take_reads(&mut self, needed: u32, rows: &[Items<Read>], row: &[Read]) -> Result<(), Memory>
+    fn take_reads(&mut self, needed: u32, rows: &Rows, row: &Row<'_>) -> Result<(), Memory>
         requires mutual { AreMutual rows.now }
         requires sources { All (λ r. r.source < length rows.now) row.now }
         requires peeling { IsPeeling needed rows.now row.now self.old }
@@ -96,29 +97,29 @@ impl Peeling {
         ensures enough { OnOk result (HaveEnough needed (length rows.now) self.new) }
         ensures work { OnOk result (work_left self.new ≡ work_left self.old) }
     {
-        for read in row {
-            self.take_read(needed, read.source)?;
+        for k in 0..row.len() {
+            self.take_read(needed, row.read(k).source)?;
         }
         Ok(())
     }
 
     /// All vertices die that are short of reads from the start.
-    pub fn bury_short(&mut self, needed: u32, rows: &[Items<Read>]) -> Result<(), Memory>
-        requires vertices { length rows.now ≤ 2 ^ 22 }
+    pub fn bury_short(&mut self, needed: u32, rows: &Rows) -> Result<(), Memory>
+        requires vertices { length rows.now ≤ MOST_VERTICES }
         requires mutual { AreMutual rows.now }
         requires fit { RowsFit (length rows.now) rows.now }
         requires start { self.old ≡ all_alive rows.now }
         ensures peeling { OnOk result (IsPeeling needed rows.now [] self.new) }
         ensures enough { OnOk result (HaveEnough needed (length rows.now) self.new) }
     {
-        for v in 0..rows.len() {
+        for v in 0..rows.row_count() {
             self.bury_if_short(needed, v as Pos)?;
         }
         Ok(())
     }
 
     /// Peels off the dead until there are none.
-    pub fn peel(&mut self, needed: u32, rows: &[Items<Read>]) -> Result<(), Memory>
+    pub fn peel(&mut self, needed: u32, rows: &Rows) -> Result<(), Memory>
         requires mutual { AreMutual rows.now }
         requires fit { RowsFit (length rows.now) rows.now }
         requires peeling { IsPeeling needed rows.now [] self.old }
@@ -128,7 +129,7 @@ impl Peeling {
         ensures done { OnOk result (self.new.dead ≡ []) }
     {
         while let Some(v) = self.dead.pop() {
-            self.take_reads(needed, rows, rows[v as usize].as_slice())?;
+            self.take_reads(needed, rows, &rows.row(v as usize))?;
         }
         Ok(())
     }

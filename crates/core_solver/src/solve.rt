@@ -1,4 +1,6 @@
-ghost use Rattle.std.specs.Prelude.{◌≡◌, ◌≤◌, ◌^◌, IfOk};
+//! The answer of a globally correcting program: the k-core.
+ghost use Rattle.std.specs.Prelude.{◌≡◌, ◌≤◌, IfOk};
+ghost use Rattle.px_base.specs.declared.TheConstants.{MOST_READS, MOST_VERTICES};
 ghost use Rattle.px_base.specs.Graphs.{RowsFit, read_count};
 ghost use Rattle.px_base.specs.Answers.{IsKCore};
 ghost use Rattle.core_solver.specs.Mutual.{AreMutual};
@@ -12,11 +14,11 @@ use std::alloc::Global;
 pub fn solve_core(alloc: Global, graph: &ReadGraph, needed: u32) -> Result<Vec<Value>, Memory>
     requires rows { RowsFit graph.now.n graph.now.rows }
     requires mutual { AreMutual graph.now.rows }
-    requires vertices { graph.now.n ≤ 2 ^ 22 }
-    requires reads { read_count graph.now.rows ≤ 2 ^ 25 }
+    requires vertices { graph.now.n ≤ MOST_VERTICES }
+    requires reads { read_count graph.now.rows ≤ MOST_READS }
     ensures { IfOk result (λ x. IsKCore needed graph.now.rows x.items) }
 {
-    let rows = graph.rows.as_slice();
+    let rows = &graph.rows;
     let mut peeling = Peeling::new(alloc, rows)?;
     peeling.bury_short(needed, rows)?;
     peeling.peel(needed, rows)?;

@@ -1,10 +1,11 @@
 -- What a world of counts answers has a frame.
-use Rattle.std.proofs.Common.{◌≡◌, ℕ, ◌^◌, ◌<◌, ◌≤◌, Bool, false, List, [], ◌∷◌, length, map, refl, ap, arith, subst}
+use Rattle.std.proofs.Common.{◌≡◌, ℕ, ◌<◌, ◌≤◌, Bool, false, List, [], ◌∷◌, length, map, refl, ap, arith, subst}
 use Rattle.std.specs.Prelude.{All, filter, nat_lt, Option, None, Some, Result, Ok, Err}
 use Rattle.std.specs.List.Sorted.{IsStrictlyIncreasing}
 use Rattle.std.proofs.lemmas.List.{length-map}
 use Rattle.std.proofs.lemmas.List.Elements.{All-filter, All-map, All-weaker}
 use Rattle.std.proofs.lemmas.List.Kept.{IsStrictlyIncreasing-filter}
+use Rattle.px_base.specs.declared.TheConstants.{MOST_READS, MOST_VERTICES}
 use Rattle.px_base.specs.declared.wire.Update.{Update}
 use Rattle.px_base.specs.declared.wire.Order.{Order}
 use Rattle.px_base.specs.declared.wire.Order.TheVariants.{Step, Report}
@@ -29,7 +30,7 @@ same_vertices f (v ∷ vs) = ap (λ rest. v ∷ rest) (same_vertices f vs)
 
 -- rising vertices with their values
 pub record ArePairs (us : List Update) : Type 0 where
-  pub few : length us ≤ 2 ^ 22
+  pub few : length us ≤ MOST_VERTICES
   pub fit : PairsFit us
 
 pub pairs_fit : (f : ℕ → ℕ) (vs : List ℕ) → IsStrictlyIncreasing vs → All IsVertex vs → ((v : ℕ) → IsValue (f v)) → ArePairs (map (told_update f) vs)
@@ -43,17 +44,17 @@ pairs_fit f vs rising each values = record {
 
 -- ---- deaths
 
-times_are_values : (w : CountWorld) (test : ℕ → Bool) (m : ℕ) → length w.part.rows ≡ length w.alive → read_count w.part.rows ≤ 2 ^ 25 → IsValue (times_read w test m)
+times_are_values : (w : CountWorld) (test : ℕ → Bool) (m : ℕ) → length w.part.rows ≡ length w.alive → read_count w.part.rows ≤ MOST_READS → IsValue (times_read w test m)
 times_are_values w test m size few =
     let members : List ℕ = filter test (positions_below (length w.alive)) in
-    omega (arith, told_within w.part.rows members m, few_reads w.part.rows (length w.alive) (2 ^ 25) test members (λ f. refl) size few)
+    omega (arith, told_within w.part.rows members m, few_reads w.part.rows (length w.alive) MOST_READS test members (λ f. refl) size few)
 
-deaths_fit : (w : CountWorld) (test : ℕ → Bool) → PartFits w.part → length w.part.rows ≡ length w.alive → read_count w.part.rows ≤ 2 ^ 25 → ArePairs (death_announcements w test)
+deaths_fit : (w : CountWorld) (test : ℕ → Bool) → PartFits w.part → length w.part.rows ≡ length w.alive → read_count w.part.rows ≤ MOST_READS → ArePairs (death_announcements w test)
 deaths_fit w test fits size few =
     let told : ℕ → Bool = λ m. nat_lt 0 (times_read w test m) in
     pairs_fit (times_read w test) (filter told w.part.mirrors)
     (IsStrictlyIncreasing-filter told w.part.mirrors fits.mirrors_rise)
-    (All-filter told IsVertex w.part.mirrors (All-weaker (λ m. (m < 2 ^ 22) × (is_within w.part.low w.part.high m ≡ false)) IsVertex (λ m h. h.0) w.part.mirrors fits.mirrors_outside))
+    (All-filter told IsVertex w.part.mirrors (All-weaker (λ m. (m < MOST_VERTICES) × (is_within w.part.low w.part.high m ≡ false)) IsVertex (λ m h. h.0) w.part.mirrors fits.mirrors_outside))
     (λ m. times_are_values w test m size few)
 
 -- ---- the answer

@@ -1,11 +1,12 @@
 -- How often mirrors are told, and the list of those that are told something.
-use Rattle.std.proofs.Common.{◌≡◌, ℕ, zero, suc, ◌+◌, ◌<◌, ◌≤◌, ◌^◌, ◌∙◌, Bool, true, false, List, [], ◌∷◌, ◌++◌, length, get_or, take, set, map, replicate, refl, sym, ap, arith, length-set, add-zero, inl, inr, Some}
+use Rattle.std.proofs.Common.{◌≡◌, ℕ, zero, suc, ◌+◌, ◌<◌, ◌≤◌, ◌∙◌, Bool, true, false, List, [], ◌∷◌, ◌++◌, length, get_or, take, set, map, replicate, refl, sym, ap, arith, length-set, add-zero, inl, inr, Some}
 use Rattle.std.specs.Prelude.{◌==◌, ◌&&◌, ◌||◌, nat_lt, filter, slice_index, if◌then◌else◌}
 use Rattle.std.specs.Vec.{vec_capacity}
 use Rattle.std.proofs.lemmas.Bool.Decides.{nat_tests, eqb_tells}
 use Rattle.std.proofs.lemmas.Bool.{cases_lt}
 use Rattle.std.proofs.lemmas.List.{get_or-set_same, get_or-set_other, take_all, length-replicate, append-nil, map-append}
 use Rattle.std.proofs.Math.ListN.{get_or-eq_default}
+use Rattle.px_base.specs.declared.TheConstants.{MOST_VERTICES}
 use Rattle.px_base.specs.declared.wire.Update.{Update}
 use Rattle.px_base.specs.Values.{positions_below, is_listed, one_if}
 use Rattle.px_base.proofs.Positions.{at_position, length_by_position}
@@ -80,7 +81,7 @@ wiped times touched lists i = elim (cases_lt i (length times)) [
 pub clear_lists : (times : List ℕ) → ((i : ℕ) → slice_index times i ≡ 0) → IsListOf (length times) (is_told times) []
 clear_lists times none = none_list (length times) (is_told times) (λ i below. ap (λ n. nat_lt 0 n) (none i))
 
-pub clear_made : (mirrors : List ℕ) (t : Tally) → t.times.items ≡ replicate (length mirrors) 0 → t.touched.items ≡ [] → length mirrors ≤ vec_capacity t.touched → length mirrors ≤ 2 ^ 22 → IsClear t
+pub clear_made : (mirrors : List ℕ) (t : Tally) → t.times.items ≡ replicate (length mirrors) 0 → t.touched.items ≡ [] → length mirrors ≤ vec_capacity t.touched → length mirrors ≤ MOST_VERTICES → IsClear t
 clear_made mirrors t times touched room few =
     let size : length t.times.items ≡ length mirrors = ap length times ∙ length-replicate (length mirrors) 0 in
     let none : (i : ℕ) → slice_index t.times.items i ≡ 0 = λ i. rw times (at_replicate (length mirrors) 0 i) in

@@ -1,14 +1,15 @@
 -- Who is alive, with how many living neighbours, and who is to die.
-use Rattle.std.specs.Prelude.{◌≡◌, ◌≤◌, ◌^◌, All, length}
+use Rattle.std.specs.Prelude.{◌≡◌, ◌≤◌, All, length}
 use Rattle.std.specs.Vec.{vec_capacity}
 use Rattle.count_world.specs.declared.census.Census.{Census}
 use Rattle.list_laws.specs.Sets.{IsListOf}
 use Rattle.count_world.specs.Sets.{is_dying}
+use Rattle.px_base.specs.declared.TheConstants.{MOST_VERTICES}
 
 -- There are a flag of 1 or 0 and a count for each master, and the list has those that are alive with a count below the
 -- number needed. It has room for all masters.
 pub record IsCensus (c : Census) : Type 0 where
-  pub few : length c.alive.items ≤ 2 ^ 22
+  pub few : length c.alive.items ≤ MOST_VERTICES
   pub flags : All (λ flag. flag ≤ 1) c.alive.items
   pub counts : length c.counts.items ≡ length c.alive.items
   pub room : length c.alive.items ≤ vec_capacity c.dying

@@ -1,6 +1,7 @@
 -- What each world of counts keeps.
-use Rattle.std.specs.Prelude.{◌≡◌, ◌-◌, ◌≤◌, ◌^◌, All, length}
+use Rattle.std.specs.Prelude.{◌≡◌, ◌-◌, ◌≤◌, All, length}
 use Rattle.std.specs.Vec.{vec_capacity}
+use Rattle.px_base.specs.declared.TheConstants.{MOST_READS}
 use Rattle.px_base.specs.Graphs.{read_count}
 use Rattle.px_base.specs.Parts.{PartFits}
 use Rattle.px_base.specs.Worlds.{CountWorld}
@@ -14,7 +15,7 @@ use Rattle.count_world.specs.Tally.{IsClear}
 -- There are a flag of 1 or 0 and a count for each master of a part that fits, with at most 2 ^ 25 reads.
 pub record KeepsCounts (w : CountWorld) : Type 0 where
   pub fits : PartFits w.part
-  pub reads : read_count w.part.rows ≤ 2 ^ 25
+  pub reads : read_count w.part.rows ≤ MOST_READS
   pub alive : length w.alive ≡ w.part.high - w.part.low
   pub flags : All (λ flag. flag ≤ 1) w.alive
   pub counts : length w.counts ≡ w.part.high - w.part.low

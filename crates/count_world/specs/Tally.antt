@@ -1,8 +1,9 @@
 -- How often each mirror is told.
-use Rattle.std.specs.Prelude.{◌≡◌, ℕ, ◌+◌, ◌<◌, ◌≤◌, ◌^◌, Bool, List, nat_lt, length, slice_index}
+use Rattle.std.specs.Prelude.{◌≡◌, ℕ, ◌+◌, ◌<◌, ◌≤◌, Bool, List, nat_lt, length, slice_index}
 use Rattle.std.specs.Vec.{vec_capacity}
 use Rattle.count_world.specs.declared.tally.Tally.{Tally}
 use Rattle.list_laws.specs.Sets.{IsListOf}
+use Rattle.px_base.specs.declared.TheConstants.{MOST_VERTICES}
 
 -- the mirror at that place is told something
 abbrev pub is_told : List ℕ → ℕ → Bool
@@ -10,7 +11,7 @@ is_told times i = nat_lt 0 (slice_index times i)
 
 -- The list has the mirrors that are told something, and has room for all.
 pub record IsTally (t : Tally) : Type 0 where
-  pub few : length t.times.items ≤ 2 ^ 22
+  pub few : length t.times.items ≤ MOST_VERTICES
   pub room : length t.times.items ≤ vec_capacity t.touched
   pub lists : IsListOf (length t.times.items) (is_told t.times.items) t.touched.items
 

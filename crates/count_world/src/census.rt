@@ -1,5 +1,5 @@
 //! Which masters are alive, and how many living neighbours each of them counts.
-ghost use Rattle.std.specs.Prelude.{◌≡◌, ◌≤◌, ◌<◌, ◌-◌, ◌^◌, All, IfOk, IsTrue, if◌then◌else◌, length, map, replicate, slice_index, slice_set};
+ghost use Rattle.std.specs.Prelude.{◌≡◌, ◌≤◌, ◌<◌, ◌-◌, All, IfOk, IsTrue, if◌then◌else◌, length, map, replicate, slice_index, slice_set};
 ghost use Rattle.px_base.specs.Graphs.{read_count};
 ghost use Rattle.px_base.specs.Parts.{PartFits, is_within};
 ghost use Rattle.px_base.specs.CountSteps.{counts_less};
@@ -14,9 +14,13 @@ use std::alloc::Global;
 /// keeps the list, so nobody has to look for them.
 #[derive(Drop)]
 pub struct Census {
+    /// How many living neighbours a master needs.
     pub needed: u32,
+    /// 1 for each living master and 0 for each dead one.
     pub alive: Vec<Value>,
+    /// How many living neighbours each master counts, once for each read.
     pub counts: Vec<Value>,
+    /// The places of the masters that are alive and count too few. It has room for all masters.
     pub dying: Vec<u32>,
 }
 
@@ -33,8 +37,8 @@ fn put_row_lengths(part: &Part, counts: &mut Vec<Value>)
     requires counts { length counts.old.items ≡ part.now.high - part.now.low }
     ensures { counts.new.items ≡ map length part.now.rows }
 {
-    for (k, row) in part.rows.as_slice().iter().enumerate() {
-        counts[k] = row.as_slice().len() as u64;
+    for k in 0..part.rows.row_count() {
+        counts[k] = part.rows.row(k).len() as u64;
     }
 }
 

@@ -1,5 +1,7 @@
-ghost use Rattle.std.specs.Prelude.{◌≡◌, ◌-◌, ◌<◌, ◌≤◌, ◌^◌, ◌||◌, ℕ, All, IfOk, IsTrue, OnErr, if◌then◌else◌, length, map, replicate, slice_index};
+//! What a world that counts knows of its masters, and what a step does to it.
+ghost use Rattle.std.specs.Prelude.{◌≡◌, ◌-◌, ◌<◌, ◌≤◌, ◌||◌, ℕ, All, IfOk, IsTrue, OnErr, if◌then◌else◌, length, map, replicate, slice_index};
 ghost use Rattle.std.specs.Vec.{vec_capacity};
+ghost use Rattle.px_base.specs.declared.TheConstants.{MOST_READS};
 ghost use Rattle.px_base.specs.declared.graph.Part.{Part as PartData};
 ghost use Rattle.px_base.specs.Graphs.{read_count};
 ghost use Rattle.px_base.specs.Parts.{PartFits, is_within};
@@ -24,12 +26,19 @@ use std::mem;
 /// death is told again, who died in it, and the counts and the list of before.
 #[derive(Drop)]
 pub struct Known {
+    /// Who is alive, what each master counts, and who is to die.
     pub census: Census,
+    /// The masters that read each master, once for each read.
     pub readers: Readers,
+    /// Where each mirror stands among the mirrors.
     pub places: PlaceTable,
+    /// The dead masters whose death a fresh Step tells again.
     pub again: Vec<u32>,
+    /// Who died in the last Step. While one is prepared, it keeps the list of dying masters from before.
     pub gone: Vec<u32>,
+    /// The counts from before, where a Step changes them: they are put back without memory.
     pub saved: Vec<Value>,
+    /// How often each mirror is told of a death.
     pub tally: Tally,
 }
 
@@ -58,7 +67,7 @@ impl Known {
     /// Takes off the counts what a Step does, and notes what that tells. What is to be put back without memory is kept.
     fn prepare(&mut self, part: &Part, fresh: bool, updates: &[Update])
         requires fits { PartFits part.now }
-        requires reads { read_count part.now.rows ≤ 2 ^ 25 }
+        requires reads { read_count part.now.rows ≤ MOST_READS }
         requires ready { IsReady part.now self.old }
         requires known { All (λ u. IsTrue (is_within part.now.low part.now.high u.vertex)) updates.now }
         ensures { IsNoted part.now fresh updates.now self.old self.new }
@@ -129,7 +138,7 @@ impl Known {
         updates: &[Update],
     ) -> Result<(bool, Vec<Update>), Memory>
         requires fits { PartFits part.now }
-        requires reads { read_count part.now.rows ≤ 2 ^ 25 }
+        requires reads { read_count part.now.rows ≤ MOST_READS }
         requires ready { IsReady part.now self.old }
         requires known { All (λ u. IsTrue (is_within part.now.low part.now.high u.vertex)) updates.now }
         ensures ready { IsReady part.now self.new }

@@ -1,6 +1,7 @@
 //! Lists of masters or mirrors by place, with room for all of them.
-ghost use Rattle.std.specs.Prelude.{◌≡◌, ◌≤◌, ◌<◌, ◌^◌, ◌++◌, ◌∷◌, [], true, not, All, IfOk, if◌then◌else◌, filter, length, replicate};
+ghost use Rattle.std.specs.Prelude.{◌≡◌, ◌≤◌, ◌<◌, ◌++◌, ◌∷◌, [], true, not, All, IfOk, if◌then◌else◌, filter, length, replicate};
 ghost use Rattle.std.specs.Vec.{vec_capacity};
+ghost use Rattle.px_base.specs.declared.TheConstants.{MOST_VERTICES};
 ghost use Rattle.px_base.specs.Values.{is_in, positions_below};
 ghost use Rattle.list_laws.specs.Sets.{IsListOf};
 ghost use Rattle.count_world.specs.Sets.{is_dying, is_told_again, without};
@@ -8,6 +9,7 @@ ghost use Rattle.count_world.specs.Sets.{is_dying, is_told_again, without};
 use px_base::{Memory, Value};
 use std::alloc::Global;
 
+/// So many zeros. Errors: want of memory.
 pub fn zeros(alloc: Global, count: usize) -> Result<Vec<Value>, Memory>
     ensures { IfOk result (λ zeros. zeros.items ≡ replicate count 0) }
 {
@@ -37,7 +39,7 @@ fn is_dying(alive: &[Value], counts: &[Value], needed: u32, k: usize) -> bool
 /// Lists the masters that are alive and have too low a count.
 pub fn list_dying(alive: &[Value], counts: &[Value], needed: u32, list: &mut Vec<u32>)
     requires counts { length counts.now ≡ length alive.now }
-    requires few { length alive.now ≤ 2 ^ 22 }
+    requires few { length alive.now ≤ MOST_VERTICES }
     requires room { length alive.now ≤ vec_capacity list.old }
     ensures lists { IsListOf (length alive.now) (is_dying alive.now counts.now needed) list.new.items }
     ensures room { vec_capacity list.old ≤ vec_capacity list.new }
@@ -50,7 +52,7 @@ pub fn list_dying(alive: &[Value], counts: &[Value], needed: u32, list: &mut Vec
 
 /// Lists the masters that are dead.
 fn list_dead(alive: &[Value], list: &mut Vec<u32>)
-    requires few { length alive.now ≤ 2 ^ 22 }
+    requires few { length alive.now ≤ MOST_VERTICES }
     requires room { length alive.now ≤ vec_capacity list.old }
     ensures lists { list.new.items ≡ filter (λ k. not (is_in alive.now k)) (positions_below (length alive.now)) }
     ensures room { vec_capacity list.old ≤ vec_capacity list.new }
@@ -63,7 +65,7 @@ fn list_dead(alive: &[Value], list: &mut Vec<u32>)
 
 /// Lists the masters whose death is told once more: all that are dead where a Step is fresh, and else none.
 pub fn list_again(fresh: bool, alive: &[Value], list: &mut Vec<u32>)
-    requires few { length alive.now ≤ 2 ^ 22 }
+    requires few { length alive.now ≤ MOST_VERTICES }
     requires room { length alive.now ≤ vec_capacity list.old }
     ensures lists { IsListOf (length alive.now) (is_told_again fresh alive.now) list.new.items }
     ensures room { vec_capacity list.old ≤ vec_capacity list.new }

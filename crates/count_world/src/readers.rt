@@ -8,29 +8,21 @@ ghost use Rattle.count_world.specs.Sets.{counts_off};
 ghost use Rattle.count_world.specs.Census.{IsCensus, KeepsCensus};
 
 use crate::census::{Census, master_count};
-use px_base::{Memory, Part, Read};
+use px_base::{Memory, Part, Pos, Read, Row};
 use reader_chains::Readers;
 use std::alloc::Global;
 
 /// Whether the part's own masters are read.
-fn is_inner(part: &Part, read: Read) -> bool
-    ensures { result ≡ is_within part.now.low part.now.high read.source }
+fn is_inner(part: &Part, u: Pos) -> bool
+    ensures { result ≡ is_within part.now.low part.now.high u }
 {
-    part.low <= read.source && read.source < part.high
+    part.low <= u && u < part.high
 }
 
 /// How many reads of masters the rows have. It only says how much room to make, so no clause speaks of it.
 fn inner_reads(part: &Part) -> usize {
-    let mut count: usize = 0;
-    for row in part.rows.as_slice() {
-        let inner = row
-            .as_slice()
-            .iter()
-            .filter(|read| is_inner(part, **read))
-            .count();
-        count = count.saturating_add(inner);
-    }
-    count
+    let sources = part.rows.flat().sources;
+    sources.iter().filter(|u| is_inner(part, **u)).count()
 }
 
 /// Adds the reader to the master that the read is of, if it is of one.
@@ -39,20 +31,20 @@ fn add_read(readers: &mut Readers, part: &Part, reader: u32, read: Read) -> Resu
     requires reader { reader < part.now.high - part.now.low }
     ensures { OnOk result (HasGrown (part.now.high - part.now.low) readers.old readers.new (λ k j. if reader == j then one_if (read.source == part.now.low + k) else 0)) }
 {
-    if is_inner(part, read) {
+    if is_inner(part, read.source) {
         readers.add((read.source - part.low) as usize, reader)?;
     }
     Ok(())
 }
 
 /// Adds the reader to each master in its row, once for each read.
-fn add_row(readers: &mut Readers, part: &Part, reader: u32, row: &[Read]) -> Result<(), Memory>
+fn add_row(readers: &mut Readers, part: &Part, reader: u32, row: &Row<'_>) -> Result<(), Memory>
     requires masters { AreMasters (part.now.high - part.now.low) readers.old }
     requires reader { reader < part.now.high - part.now.low }
     ensures { OnOk result (HasGrown (part.now.high - part.now.low) readers.old readers.new (λ k j. if reader == j then reads_passing (λ u. u == part.now.low + k) row.now else 0)) }
 {
-    for read in row {
-        add_read(readers, part, reader, *read)?;
+    for k in 0..row.len() {
+        add_read(readers, part, reader, row.read(k))?;
     }
     Ok(())
 }
@@ -63,8 +55,8 @@ pub fn gather_readers(alloc: Global, part: &Part) -> Result<Readers, Memory>
     ensures { IfOk result (λ readers. AreReaders part.now readers) }
 {
     let mut readers = Readers::new(alloc, master_count(part), inner_reads(part))?;
-    for (j, row) in part.rows.as_slice().iter().enumerate() {
-        add_row(&mut readers, part, j as u32, row.as_slice())?;
+    for j in 0..part.rows.row_count() {
+        add_row(&mut readers, part, j as u32, &part.rows.row(j))?;
     }
     Ok(readers)
 }

@@ -2,6 +2,7 @@
 ghost use Rattle.std.specs.Prelude.{◌≡◌, ◌==◌, ◌≤◌, ◌<◌, ◌+◌, ◌-◌, ◌^◌, ℕ, All, IfOk, IfSome, if◌then◌else◌, length, map, slice_index};
 ghost use Rattle.std.specs.List.Sorted.{IsStrictlyIncreasing};
 ghost use Rattle.std.specs.Option.{ForSome};
+ghost use Rattle.px_base.specs.declared.TheConstants.{MOST_READS, MOST_VERTICES};
 ghost use Rattle.px_base.specs.Values.{one_if};
 ghost use Rattle.px_base.specs.Graphs.{reads_passing};
 ghost use Rattle.px_base.specs.Parts.{PartFits};
@@ -11,14 +12,16 @@ ghost use Rattle.count_world.specs.Told.{is_place, times_of, reads_of, told_upda
 
 use crate::lists::{add_if, wipe_at, zeros};
 use mirror_places::PlaceTable;
-use px_base::{Memory, Part, Pos, Read, Update, Value};
+use px_base::{Memory, Part, Pos, Read, Row, Update, Value};
 use std::alloc::Global;
 
 /// How often each mirror is told, and a list of those that are told something. Whatever raises a number keeps the list, so
 /// that nobody has to look through all mirrors.
 #[derive(Drop)]
 pub struct Tally {
+    /// How often each mirror is told, in the order of the mirrors.
     pub times: Vec<Value>,
+    /// The places of the mirrors that are told something. It has room for all mirrors.
     pub touched: Vec<u32>,
 }
 
@@ -61,7 +64,7 @@ impl Tally {
     /// No mirror is told anything.
     pub fn new(alloc: Global, mirrors: &[Pos]) -> Result<Tally, Memory>
         requires rising { IsStrictlyIncreasing mirrors.now }
-        requires below { All (λ m. m < 2 ^ 22) mirrors.now }
+        requires below { All (λ m. m < MOST_VERTICES) mirrors.now }
         ensures clear { IfOk result (λ tally. IsClear tally) }
         ensures size { IfOk result (λ tally. length tally.times.items ≡ length mirrors.now) }
     {
@@ -87,7 +90,7 @@ impl Tally {
     }
 
     /// Adds to each mirror how often it stands in the row.
-    fn add_row(&mut self, part: &Part, places: &PlaceTable, row: &[Read])
+    fn add_row(&mut self, part: &Part, places: &PlaceTable, row: &Row<'_>)
         requires fits { PartFits part.now }
         requires places { IsTableOf part.now.mirrors places.now }
         requires size { length self.old.times.items ≡ length part.now.mirrors }
@@ -95,8 +98,8 @@ impl Tally {
         requires tally { IsTally self.old }
         ensures { RaisesTally self.old self.new (λ i. reads_passing (λ u. u == slice_index part.now.mirrors i) row.now) }
     {
-        for read in row {
-            self.raise_at(mirror_read(part, places, *read));
+        for k in 0..row.len() {
+            self.raise_at(mirror_read(part, places, row.read(k)));
         }
     }
 
@@ -110,9 +113,8 @@ impl Tally {
         requires tally { IsTally self.old }
         ensures { RaisesTally self.old self.new (λ i. times_of part.now.rows members.now (slice_index part.now.mirrors i)) }
     {
-        let rows = part.rows.as_slice();
         for k in members {
-            self.add_row(part, places, rows[*k as usize].as_slice());
+            self.add_row(part, places, &part.rows.row(*k as usize));
         }
     }
 
@@ -122,8 +124,8 @@ impl Tally {
         requires places { IsTableOf part.now.mirrors places.now }
         requires again { All (λ k. k < part.now.high - part.now.low) again.now }
         requires dying { All (λ k. k < part.now.high - part.now.low) dying.now }
-        requires few_again { reads_of part.now.rows again.now ≤ 2 ^ 25 }
-        requires few_dying { reads_of part.now.rows dying.now ≤ 2 ^ 25 }
+        requires few_again { reads_of part.now.rows again.now ≤ MOST_READS }
+        requires few_dying { reads_of part.now.rows dying.now ≤ MOST_READS }
         requires size { length self.old.times.items ≡ length part.now.mirrors }
         requires clear { IsClear self.old }
         ensures tally { IsTally self.new }

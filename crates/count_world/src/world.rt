@@ -1,3 +1,4 @@
+//! A world that counts, and its step.
 ghost use Rattle.std.specs.Prelude.{◌≡◌, IfOk};
 
 use crate::known::Known;
@@ -35,7 +36,8 @@ impl Model for CountWorld {
 }
 
 impl CountWorld {
-    ghost use Rattle.std.specs.Prelude.{◌≡◌, ◌≤◌, ◌^◌, Some, None, Ok, OnErr, IfOk, IfErr, IfSome, IfNone};
+    ghost use Rattle.px_base.specs.declared.TheConstants.{MOST_READS};
+    ghost use Rattle.std.specs.Prelude.{◌≡◌, ◌≤◌, Some, None, Ok, OnErr, IfOk, IfErr, IfSome, IfNone};
     ghost use Rattle.px_base.specs.Graphs.{read_count};
     ghost use Rattle.px_base.specs.Parts.{PartFits};
     ghost use Rattle.px_base.specs.Steps.{Refuses};
@@ -49,7 +51,7 @@ impl CountWorld {
     /// row. Errors: want of memory.
     pub fn new(alloc: Global, part: Part, k: u32) -> Result<CountWorld, Memory>
         requires fits { PartFits part }
-        requires reads { read_count part.rows ≤ 2 ^ 25 }
+        requires reads { read_count part.rows ≤ MOST_READS }
         ensures { IfOk result (λ w. w ≡ new_count_world part k) }
     {
         let known = Known::new(alloc, &part, k)?;

@@ -3,7 +3,7 @@ use hub_terms::Limits;
 use px_base::{CoreProgram, Items, ReadGraph, Value};
 
 /// What is to be computed, by how many workers, and within which limits.
-#[derive(Debug, PartialEq, Eq, Drop)]
+#[derive(Debug, Drop)]
 pub struct Job {
     /// The graph. Row v lists the reads of vertex v.
     pub graph: ReadGraph,

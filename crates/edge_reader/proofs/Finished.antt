@@ -3,6 +3,7 @@ use Rattle.std.proofs.Common.{◌≡◌, ℕ, ◌+◌, ◌*◌, ◌<◌, ◌≤�
 use Rattle.std.specs.Prelude.{Ok, Err, Contains, ◌↔◌}
 use Rattle.std.proofs.lemmas.Bool.{le-ltb, lt-ltb}
 use Rattle.std.proofs.lemmas.List.{get_or-map, length-map, get_or_default, drop_all, take_all}
+use Rattle.px_base.specs.declared.TheConstants.{MOST_EDGES, MOST_VERTICES}
 use Rattle.px_base.specs.declared.graph.Edge.{Edge}
 use Rattle.px_base.specs.declared.graph.EdgeList.{EdgeList}
 use Rattle.px_base.specs.Values.{place_of, by_position, IsWeight}
@@ -49,7 +50,7 @@ place_inside ends places ids n a below =
     let is : get_or places n 0 ≡ place_of ids x = ap (λ l. get_or l n 0) a.placed ∙ get_or-map (place_of ids) ends n 0 0 below in
     omega (arith, found.1)
 
-pub list_fits : (ends places weights ids : List ℕ) → ArePlaced ends places ids → ((k : ℕ) → get_or ends k 0 < 2 ^ 32) → ((k : ℕ) → get_or weights k 0 < 2 ^ 32) → length weights ≤ 2 ^ 24 → length ends ≡ 2 * length weights → length ids ≤ 2 ^ 22 →
+pub list_fits : (ends places weights ids : List ℕ) → ArePlaced ends places ids → ((k : ℕ) → get_or ends k 0 < 2 ^ 32) → ((k : ℕ) → get_or weights k 0 < 2 ^ 32) → length weights ≤ MOST_EDGES → length ends ≡ 2 * length weights → length ids ≤ MOST_VERTICES →
     EdgeListFits (list_of ids places weights)
 list_fits ends places weights ids a small light few both room = record {
   vertices = room;

@@ -6,11 +6,12 @@ use Rattle.std.specs.List.Sorted.{IsStrictlyIncreasing}
 use Rattle.std.proofs.lemmas.Bool.{ltb-false}
 use Rattle.std.proofs.lemmas.List.{get_or_default, length-map}
 use Rattle.std.proofs.lemmas.List.Elements.{All-cons, recursion_from_All}
+use Rattle.px_base.specs.declared.TheConstants.{ID_LIMIT, MOST_EDGES, MOST_VERTICES}
 use Rattle.px_base.specs.declared.graph.Edge.{Edge}
 use Rattle.px_base.specs.declared.graph.EdgeList.{EdgeList}
 use Rattle.px_base.specs.declared.number.NumberFault.{NumberFault}
 use Rattle.px_base.specs.Text.{number_read}
-use Rattle.px_base.specs.Lines.{EdgeListFits, IdEdge, IsEdgeListOf, Line, an_edge, bad_id, ends_of, fields_of, faulty, is_comment, line_of, lines_of, placed_edge, skipped, small_number, source_line, target_line, weighed_line, weight_of, without_return}
+use Rattle.px_base.specs.Lines.{EdgeListFits, IdEdge, IsEdgeListOf, Line, an_edge, bad_id, ends_of, fields_of, faulty, is_comment, line_of, lines_of, placed_edge, skipped, number_below, source_line, target_line, weighed_line, weight_of, without_return}
 use Rattle.px_base.specs.Values.{IsWeight, place_of}
 use Rattle.px_base.specs.Inputs.{InputFault, distinct_count, edges_within, ended_lines, input_limits, input_of, line_then, result_at_end, result_cut_short, room_after, too_many_vertices, with_edge}
 use Rattle.px_base.proofs.Members.{first, later, mapped_from, of_member, of_members, which}
@@ -34,7 +35,7 @@ IsInside n e = (e.source < n) × (e.target < n) × IsWeight e.weight
 
 -- ---- numbers
 
-small_below : (field : List ℕ) (n : ℕ) → small_number field ≡ Some n → n < 2 ^ 32
+small_below : (field : List ℕ) (n : ℕ) → number_below (2 ^ 32) field ≡ Some n → n < 2 ^ 32
 small_below field n is = by_read (number_read field (2 ^ 32 - 1)) refl is
   where
     by_read : (read : Result ℕ NumberFault) → number_read field (2 ^ 32 - 1) ≡ read → (elim read [ Ok m ↦ Some m | Err fault ↦ None ]) ≡ Some n → n < 2 ^ 32
@@ -57,17 +58,17 @@ weighed_small a b (Some w) e ha hb hw is =
 
 target_small : (weighted : Bool) (a : ℕ) (fields : List (List ℕ)) (e : IdEdge) → a < 2 ^ 32 → target_line weighted a fields ≡ an_edge e → IsSmall e
 target_small weighted a [] e ha is = absurd (cc)
-target_small weighted a (field ∷ fields) e ha is = by_target (small_number field) refl is
+target_small weighted a (field ∷ fields) e ha is = by_target (number_below ID_LIMIT field) refl is
   where
-    by_target : (o : Option ℕ) → small_number field ≡ o → (elim o [ Some b ↦ weighed_line a b (weight_of weighted fields) | None ↦ faulty bad_id ]) ≡ an_edge e → IsSmall e
+    by_target : (o : Option ℕ) → number_below ID_LIMIT field ≡ o → (elim o [ Some b ↦ weighed_line a b (weight_of weighted fields) | None ↦ faulty bad_id ]) ≡ an_edge e → IsSmall e
     by_target None n h = absurd (cc)
     by_target (Some b) n h = weighed_small a b (weight_of weighted fields) e ha (small_below field b n) (weight_below weighted fields) h
 
 source_small : (weighted : Bool) (fields : List (List ℕ)) (e : IdEdge) → source_line weighted fields ≡ an_edge e → IsSmall e
 source_small weighted [] e is = absurd (cc)
-source_small weighted (field ∷ fields) e is = by_source (small_number field) refl is
+source_small weighted (field ∷ fields) e is = by_source (number_below ID_LIMIT field) refl is
   where
-    by_source : (o : Option ℕ) → small_number field ≡ o → (elim o [ Some a ↦ target_line weighted a fields | None ↦ faulty bad_id ]) ≡ an_edge e → IsSmall e
+    by_source : (o : Option ℕ) → number_below ID_LIMIT field ≡ o → (elim o [ Some a ↦ target_line weighted a fields | None ↦ faulty bad_id ]) ≡ an_edge e → IsSmall e
     by_source None n h = absurd (cc)
     by_source (Some a) n h = target_small weighted a fields e (small_below field a n) h
 
@@ -157,7 +158,7 @@ ends_below edges list of = of_members (IsBetween (length list.ids)) list.edges (
 
 -- ---- the list
 
-list_fits : (edges : List IdEdge) (list : EdgeList) → AreFew (2 ^ 24) edges → distinct_count (ends_of edges) ≤ 2 ^ 22 → IsEdgeListOf edges list → EdgeListFits list
+list_fits : (edges : List IdEdge) (list : EdgeList) → AreFew MOST_EDGES edges → distinct_count (ends_of edges) ≤ MOST_VERTICES → IsEdgeListOf edges list → EdgeListFits list
 list_fits edges list are few of = record {
   vertices = omega (arith, few, distinct_is (ends_of edges) list.ids of.rising of.members);
   lines = omega (arith, are.few, ap length of.placed, length-map edges (placed_edge list.ids));
@@ -174,12 +175,12 @@ list_fits edges list are few of = record {
 pub input_fits : (weighted : Bool) (bytes : List ℕ) (edges : List IdEdge) (list : EdgeList) → input_of input_limits weighted bytes ≡ Ok edges → IsEdgeListOf edges list → EdgeListFits list
 input_fits weighted bytes edges list is of = by_length (nat_lt input_limits.bytes (length bytes)) is
   where
-    by_count : (many : Bool) (others : List IdEdge) → nat_lt input_limits.vertices (distinct_count (ends_of others)) ≡ many → AreFew (2 ^ 24) others →
+    by_count : (many : Bool) (others : List IdEdge) → nat_lt input_limits.vertices (distinct_count (ends_of others)) ≡ many → AreFew MOST_EDGES others →
         (if many then Err too_many_vertices else Ok others) ≡ Ok edges → EdgeListFits list
     by_count true others e are h = absurd (cc)
     by_count false others e are h =
         let same : others ≡ edges = cc in
-        list_fits edges list (subst (AreFew (2 ^ 24)) same are) (rw same at (ltb-false input_limits.vertices (distinct_count (ends_of others)) e)) of
+        list_fits edges list (subst (AreFew MOST_EDGES) same are) (rw same at (ltb-false input_limits.vertices (distinct_count (ends_of others)) e)) of
 
     at_end : (r : Result (List IdEdge) InputFault) → edges_within weighted 1 input_limits.edges (lines_of bytes) ≡ r → result_at_end input_limits.vertices r ≡ Ok edges → EdgeListFits list
     at_end (Err fault) e h = absurd (cc)

@@ -4,7 +4,8 @@ use Rattle.std.specs.Prelude.{Option, Some, None, ◌==◌, ◌||◌, if◌then�
 use Rattle.std.specs.List.{fold}
 use Rattle.std.proofs.lemmas.Bool.Decides.{nat_tests}
 use Rattle.std.proofs.lemmas.Bool.{ne_eqb, eqb-true}
-use Rattle.px_base.specs.Lines.{Line, skipped, faulty, bad_id, is_blank, pieces_at, in_front, has_bytes, fields_of, small_number, weight_of, weighed_line, target_line, source_line, is_comment, without_return, line_of}
+use Rattle.px_base.specs.declared.TheConstants.{ID_LIMIT}
+use Rattle.px_base.specs.Lines.{Line, skipped, faulty, bad_id, is_blank, pieces_at, in_front, has_bytes, fields_of, number_below, weight_of, weighed_line, target_line, source_line, is_comment, without_return, line_of}
 use Rattle.edge_reader.specs.declared.scan.Scan.{Scan}
 use Rattle.edge_reader.specs.declared.scan.Stage.{Stage}
 use Rattle.edge_reader.specs.declared.scan.Stage.TheVariants.{Start, Comment, Indent, Source, AfterSource, Target, AfterTarget, Weight, Rest, WrongId, WrongWeight}
@@ -141,7 +142,7 @@ before_second_at : (w : Bool) (s : Scan) (b : ℕ) (bs : List ℕ) (t : Bool) �
 before_second_at w s b bs true e rest = on_blank w (at_stage AfterSource s) b bs e ∙ rest ∙ sym (ap (target_line w s.source) (fields_blank b bs e))
 before_second_at w s b bs false e rest = on_other w (at_stage AfterSource s) b bs e ∙ second_byte w (at_stage AfterSource s) 0 b bs (with_digit 0 b) refl (second w bs)
     ∙ sym (ap (target_then w s.source (fields (later (pieces bs)))) (small_is b (first (pieces bs))))
-    ∙ sym (target_line_is w s.source (fields (later (pieces bs))) (small_number (b ∷ first (pieces bs))))
+    ∙ sym (target_line_is w s.source (fields (later (pieces bs))) (number_below ID_LIMIT (b ∷ first (pieces bs))))
     ∙ sym (ap (target_line w s.source) (fields_other b bs e))
 
 before_second : (w : Bool) (s : Scan) (bs : List ℕ) → then_said w (at_stage AfterSource s) bs ≡ target_line w s.source (fields (pieces bs))
@@ -181,7 +182,7 @@ firsts w (b ∷ bs) = λ s. first_at w s b bs (is_blank b) refl (firsts w bs)
 first_other : (w : Bool) (s : Scan) (b : ℕ) (bs : List ℕ) → is_blank b ≡ false → then_said w (in_source s 0 b) bs ≡ source_line w (fields (pieces (b ∷ bs)))
 first_other w s b bs e = first_byte w s 0 b bs (with_digit 0 b) refl (firsts w bs)
     ∙ sym (ap (source_then w (fields (later (pieces bs)))) (small_is b (first (pieces bs))))
-    ∙ sym (source_line_is w (fields (later (pieces bs))) (small_number (b ∷ first (pieces bs))))
+    ∙ sym (source_line_is w (fields (later (pieces bs))) (number_below ID_LIMIT (b ∷ first (pieces bs))))
     ∙ sym (ap (source_line w) (fields_other b bs e))
 
 indent_at : (w : Bool) (s : Scan) (b : ℕ) (bs : List ℕ) (t : Bool) → is_blank b ≡ t →

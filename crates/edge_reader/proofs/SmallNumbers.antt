@@ -7,7 +7,8 @@ use Rattle.std.specs.Str.Parse.{digits_value_after}
 use Rattle.std.proofs.lemmas.Bool.Decides.{nat_tests}
 use Rattle.std.proofs.lemmas.Bool.{le-ltb, lt-ltb, ne_eqb, ltb-true, ltb-false}
 use Rattle.std.proofs.lemmas.Str.{digit_value_digit}
-use Rattle.px_base.specs.Lines.{small_number}
+use Rattle.px_base.specs.declared.TheConstants.{ID_LIMIT}
+use Rattle.px_base.specs.Lines.{number_below}
 use Rattle.px_base.specs.Text.{digits_end, number_of}
 use Rattle.px_base.specs.declared.number.NumberFault.{NumberFault}
 use Rattle.px_base.specs.declared.number.NumberFault.TheVariants.{Empty, NotDigit, TooGreat}
@@ -74,7 +75,7 @@ read_is false true at v = refl
 read_is false false at v = refl
 
 -- what a field with a byte writes
-pub small_is : (b : ℕ) (bs : List ℕ) → small_number (b ∷ bs) ≡ with_digits 0 (b ∷ bs)
+pub small_is : (b : ℕ) (bs : List ℕ) → number_below ID_LIMIT (b ∷ bs) ≡ with_digits 0 (b ∷ bs)
 small_is b bs =
     let f : List ℕ = b ∷ bs in
     let some : (length f == 0) ≡ false = ne_eqb (length f) 0 (λ e. omega (arith, e)) in

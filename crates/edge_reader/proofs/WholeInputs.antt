@@ -6,6 +6,7 @@ use Rattle.std.proofs.KnownBytes.{Consumes-nil, Consumes-trans, Consumes-kept}
 use Rattle.std.proofs.lemmas.Bool.{le-ltb, lt-ltb, ltb-true, ltb-false}
 use Rattle.std.proofs.Math.Seq.{take-append-add}
 use Rattle.std.proofs.lemmas.List.{take-append-drop, take-take, take_at, length-take-le, length-drop, length-map}
+use Rattle.px_base.specs.declared.TheConstants.{MOST_EDGES}
 use Rattle.px_base.specs.declared.graph.EdgeList.{EdgeList}
 use Rattle.px_base.specs.Lines.{IdEdge, lines_of, ends_of}
 use Rattle.px_base.specs.Inputs.{InputFault, too_long, ended_lines, input_limits, input_of, result_at_end, result_cut_short}
@@ -202,9 +203,13 @@ pub line_is_no_read_fault : {T : Type 0} (lines : List (List ℕ)) (read : ReadL
 line_is_no_read_fault lines read (Ok x) adds e = cc
 line_is_no_read_fault lines read (Err fault) adds e = adds.own (let same : fault ≡ ReadFault = cc in same)
 
+pub line_counts_nothing : {T : Type 0} (lines : List (List ℕ)) (read : ReadLines) (result : Result T EdgeFault) → Adds lines read result → result ≡ Err TooManyVertices → ⊥
+line_counts_nothing lines read (Ok x) adds e = cc
+line_counts_nothing lines read (Err fault) adds e = adds.early (let same : fault ≡ TooManyVertices = cc in same)
+
 -- ---- the whole reading
 
-pub both_ends : (lines : List (List ℕ)) (read : ReadLines) → AreRead lines read → (length read.ends.items ≡ 2 * length read.weights.items) × (length read.weights.items ≤ 2 ^ 24)
+pub both_ends : (lines : List (List ℕ)) (read : ReadLines) → AreRead lines read → (length read.ends.items ≡ 2 * length read.weights.items) × (length read.weights.items ≤ MOST_EDGES)
 both_ends lines read a =
     let count : length read.weights.items ≡ length a.edges = ap length a.weights ∙ length-map a.edges (λ e. e.weight) in
     (omega (arith, ap length a.ends, ends_length a.edges, count), omega (arith, a.few, count))

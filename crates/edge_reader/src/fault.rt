@@ -1,3 +1,4 @@
+//! Why no edge list was read.
 use px_base::Memory;
 use std::alloc::AllocFailed;
 
@@ -6,13 +7,13 @@ use std::alloc::AllocFailed;
 pub enum EdgeFault {
     /// The line has one field alone.
     Missing { line: u64 },
-    /// An end is no number below 2^32.
+    /// An end is no number below `ID_LIMIT`.
     BadId { line: u64 },
-    /// The weight is no number below 2^32.
+    /// The weight is no number below `WEIGHT_LIMIT`.
     BadWeight { line: u64 },
-    /// There are more than 2^22 vertices.
+    /// There are more than `MOST_VERTICES` vertices.
     TooManyVertices,
-    /// There are more than 2^24 edge lines.
+    /// There are more than `MOST_EDGES` edge lines.
     TooManyEdges,
     /// There are 2^32 bytes or more.
     TooLong,

@@ -1,4 +1,6 @@
+//! The edge list of all lines: ids give way to positions.
 ghost use Rattle.std.specs.Prelude.{◌≡◌, ℕ, ◌*◌, ◌<◌, ◌≤◌, ◌^◌, List, Ok, Err, IfOk, length, map, slice_index};
+ghost use Rattle.px_base.specs.declared.TheConstants.{MOST_EDGES};
 ghost use Rattle.px_base.specs.Values.{by_position};
 ghost use Rattle.px_base.specs.Lines.{IdEdge, ends_of, EdgeListFits};
 ghost use Rattle.px_base.specs.Inputs.{input_limits, result_at_end};
@@ -34,7 +36,7 @@ fn joined(alloc: Global, places: &[u32], weights: &[u32]) -> Result<Vec<Edge>, M
 
 /// The edge list of all lines.
 pub fn finish(alloc: Global, lines: ReadLines) -> Result<EdgeList, EdgeFault>
-    requires few { length lines.weights.items ≤ 2 ^ 24 }
+    requires few { length lines.weights.items ≤ MOST_EDGES }
     requires both { length lines.ends.items ≡ 2 * length lines.weights.items }
     ensures says { (edges : List IdEdge) → lines.ends.items ≡ ends_of edges → lines.weights.items ≡ map (λ e. e.weight) edges → Says result (result_at_end input_limits.vertices (Ok edges)) }
     ensures fits { IfOk result (λ list. EdgeListFits list) }

@@ -1,3 +1,4 @@
+//! What is within the limits of an input is within those of an edge list.
 ghost use Rattle.std.specs.Prelude.{◌≡◌, Bool, List, Ok, ℕ};
 ghost use Rattle.px_base.specs.declared.graph.EdgeList.{EdgeList as EdgeListData};
 ghost use Rattle.px_base.specs.Inputs.{input_limits, input_of};

@@ -1,3 +1,4 @@
+//! The lines that have ended, and how a piece of the text adds to them.
 ghost use Rattle.std.specs.Prelude.{◌≡◌, ℕ, ◌+◌, ◌<◌, ◌≤◌, ◌^◌, List, [], ◌∷◌, ◌++◌, Ok, take, IfOk, OnOk, IfErr, length};
 ghost use Rattle.px_base.specs.Lines.{line_of};
 ghost use Rattle.px_base.specs.Inputs.{input_limits};
@@ -6,22 +7,24 @@ ghost use Rattle.edge_reader.specs.Lists.{AreRead, Adds, RefusesEdge, IsFed, Fee
 
 use crate::EdgeFault;
 use crate::scan::{Said, Scan};
+use px_base::MOST_EDGES;
 use std::alloc::Global;
-
-/// The most edge lines.
-const MOST_EDGES: usize = 1 << 24;
 
 /// The lines that have ended: the ids of both ends of each edge, one after the other, and its weight.
 #[derive(Drop)]
 pub struct ReadLines {
+    /// Whether the third field of a line is read as a weight. Where it isn't, each weight is 1.
     pub weighted: bool,
     /// The number of the next line.
     pub line: u64,
+    /// The ids of both ends of each edge, its source first: two for each weight.
     pub ends: Vec<u32>,
+    /// The weight of each edge, in the order of the lines.
     pub weights: Vec<u32>,
 }
 
 impl ReadLines {
+    /// No line has ended yet, and line 1 is next.
     pub fn new(alloc: Global, weighted: bool) -> ReadLines
         ensures read { AreRead [] result }
         ensures weighted { result.weighted ≡ weighted }

@@ -1,4 +1,6 @@
+//! Positions of ids: by a table where ids lie close together, and else by sorting.
 ghost use Rattle.std.specs.Prelude.{◌≡◌, ℕ, ◌+◌, ◌<◌, ◌≤◌, ◌^◌, All, OnOk, IfOk, length, slice_index};
+ghost use Rattle.px_base.specs.declared.TheConstants.{MOST_READS};
 ghost use Rattle.px_base.specs.Values.{by_position};
 ghost use Rattle.edge_reader.specs.Places.{ArePlaced, AreTags, AreSorted, tag_at, with_id};
 
@@ -12,7 +14,7 @@ const TAG: u64 = 1 << 32;
 /// Each end with its number in one word.
 #[tactic(auto, using(px_base::proofs::Positions::by_position_more))]
 fn tagged(alloc: Global, ends: &[u32]) -> Result<Vec<u64>, Memory>
-    requires { length ends.now ≤ 2 ^ 25 }
+    requires { length ends.now ≤ MOST_READS }
     ensures { IfOk result (λ tags. tags.items ≡ by_position (length ends.now) (tag_at ends.now)) }
 {
     let mut tags = Vec::with_capacity(alloc, ends.len())?;
@@ -37,7 +39,7 @@ fn add_id(ids: &mut Vec<u64>, id: u64) -> Result<(), Memory>
 /// The ids of rising tags, where each end gives way to the position of its id.
 fn number_tags(alloc: Global, tags: &[u64], ends: &mut [u32]) -> Result<Vec<u64>, Memory>
     requires tags { AreTags ends.old tags.now }
-    requires few { length tags.now ≤ 2 ^ 25 }
+    requires few { length tags.now ≤ MOST_READS }
     requires rising { AreSorted tags.now }
     ensures { IfOk result (λ ids. ArePlaced ends.old ends.new ids.items) }
 {
@@ -51,7 +53,7 @@ fn number_tags(alloc: Global, tags: &[u64], ends: &mut [u32]) -> Result<Vec<u64>
 
 /// The rising list of all ids, where each end gives way to the position of its id, by sorting all ends.
 fn place_by_tags(alloc: Global, ends: &mut [u32]) -> Result<Vec<u64>, Memory>
-    requires { length ends.old ≤ 2 ^ 25 }
+    requires { length ends.old ≤ MOST_READS }
     ensures { IfOk result (λ ids. ArePlaced ends.old ends.new ids.items) }
 {
     let mut tags = tagged(alloc, ends)?;
@@ -74,7 +76,7 @@ fn greatest(ends: &[u32]) -> u32
 /// The rising list of all ids, where each end gives way to the position of its id. A table serves where it is no longer
 /// than twice the ends and a million more.
 pub fn place_ends(alloc: Global, ends: &mut [u32]) -> Result<Vec<u64>, Memory>
-    requires { length ends.old ≤ 2 ^ 25 }
+    requires { length ends.old ≤ MOST_READS }
     ensures placed { IfOk result (λ ids. ArePlaced ends.old ends.new ids.items) }
     ensures small { (k : ℕ) → slice_index ends.old k < 2 ^ 32 }
 {

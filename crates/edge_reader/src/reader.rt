@@ -1,4 +1,5 @@
-ghost use Rattle.std.specs.Prelude.{◌≡◌, ◌<◌, ◌≤◌, ◌⊎◌, [], Err, IfOk, OnOk, length, vec_len};
+//! Reads an edge list from a source, piece by piece, so that the text itself is never kept.
+ghost use Rattle.std.specs.Prelude.{◌≡◌, ◌≢◌, ◌<◌, ◌≤◌, ◌⊎◌, [], Err, IfOk, OnOk, length, vec_len};
 ghost use Rattle.px_base.specs.Lines.{EdgeListFits};
 ghost use Rattle.px_io.specs.Causes.{Rose, RoseAtMostOnce};
 ghost use Rattle.edge_reader.specs.Readings.{IsReadingOf};
@@ -37,6 +38,7 @@ fn read_lines<S: Source>(
     ensures cause { result ≡ Err EdgeFault.ReadFault → Rose (S.faults source.old) (S.faults source.new) }
     ensures faults_later { S.faults source.old ≤ S.faults source.new }
     ensures first { result ≡ Err EdgeFault.ReadFault ⊎ (S.faults source.new ≡ S.faults source.old) }
+    ensures uncounted { result ≢ Err EdgeFault.TooManyVertices }
     ensures ended { OnOk result (Rose (S.ends_told source.old) (S.ends_told source.new)) }
     ensures not_ended { result ≡ Err EdgeFault.ReadFault → S.ends_told source.new ≡ S.ends_told source.old }
     ensures ended_once { RoseAtMostOnce (S.ends_told source.old) (S.ends_told source.new) }
@@ -63,9 +65,10 @@ fn read_lines<S: Source>(
 /// Reads an edge list to the end of the source. Each line has two ids below 2^32 in decimal, and where weights are read
 /// maybe a weight below 2^32; without one it is 1. Blanks and tabs stand between fields, further fields are skipped, and
 /// so are lines that begin with `#` or `%` or have no field. A fault is the first on the way from front to back. At most
-/// 2^32 - 1 bytes, 2^24 edge lines and 2^22 vertices are allowed. A source that fails is not tried again: the answer is
-/// `ReadFault` then, and it comes only where the bytes taken before are within their limits and no line that ended in
-/// them has a fault. Nor is one asked again that said its end, and edges come only then.
+/// 2^32 - 1 bytes, `MOST_EDGES` edge lines and `MOST_VERTICES` vertices are allowed. A source that fails is not tried again:
+/// the answer is `ReadFault` then, and it comes only where the bytes taken before are within their limits and no line that ended in
+/// them has a fault. Nor is one asked again that said its end; edges come only then, and so does that there are too many
+/// vertices.
 pub fn read_edges<S: Source>(
     alloc: Global,
     source: &mut S,
@@ -77,6 +80,7 @@ pub fn read_edges<S: Source>(
     ensures faults_later { S.faults source.old ≤ S.faults source.new }
     ensures first { result ≡ Err EdgeFault.ReadFault ⊎ (S.faults source.new ≡ S.faults source.old) }
     ensures ended { OnOk result (Rose (S.ends_told source.old) (S.ends_told source.new)) }
+    ensures counted { result ≡ Err EdgeFault.TooManyVertices → Rose (S.ends_told source.old) (S.ends_told source.new) }
     ensures not_ended { result ≡ Err EdgeFault.ReadFault → S.ends_told source.new ≡ S.ends_told source.old }
     ensures ended_once { RoseAtMostOnce (S.ends_told source.old) (S.ends_told source.new) }
 {

@@ -1,3 +1,4 @@
+//! One line of an edge list, byte by byte: how far it is understood, and what it says.
 ghost use Rattle.std.specs.Prelude.{◌≡◌, ◌==◌, ◌||◌, ◌≤◌, Some, length};
 ghost use Rattle.px_base.specs.Lines.{is_blank};
 ghost use Rattle.edge_reader.specs.Scans.{with_digit, in_source, in_target, in_weight, in_third, after_blank, at_start, in_field, next_in_line, let_go, next_byte, line_start, judged, line_said, with_digits, bytes_between, TakesDigits};
@@ -5,16 +6,27 @@ ghost use Rattle.edge_reader.specs.Scans.{with_digit, in_source, in_target, in_w
 /// How far a line is understood.
 #[derive(Clone, Copy)]
 pub enum Stage {
+    /// Before the first byte.
     Start,
+    /// The line began with `#` or `%`: nothing more of it counts.
     Comment,
+    /// After blanks alone.
     Indent,
+    /// In the digits of the first id.
     Source,
+    /// After the first id and a blank.
     AfterSource,
+    /// In the digits of the second id.
     Target,
+    /// After the second id and a blank.
     AfterTarget,
+    /// In the digits of the weight.
     Weight,
+    /// Past all that is read: further fields are skipped.
     Rest,
+    /// An id was no number below 2^32.
     WrongId,
+    /// The weight was no number below 2^32.
     WrongWeight,
 }
 
@@ -22,24 +34,37 @@ pub enum Stage {
 /// since the last one of a line doesn't count.
 #[derive(Clone, Copy)]
 pub struct Scan {
+    /// How far the line is understood.
     pub stage: Stage,
+    /// Whether a carriage return is held back.
     pub held: bool,
+    /// The first id, as far as its digits were read.
     pub source: u32,
+    /// The second id, as far as its digits were read.
     pub target: u32,
+    /// The weight, as far as its digits were read, and 1 before that.
     pub weight: u32,
 }
 
 /// What a line says.
 #[derive(Clone, Copy)]
 pub enum Said {
+    /// Nothing: it is a comment, or has no field.
     Skipped,
+    /// An edge.
     Edge {
+        /// The first id.
         source: u32,
+        /// The second id.
         target: u32,
+        /// The weight, 1 where none was read.
         weight: u32,
     },
+    /// One field alone.
     Missing,
+    /// An end that is no number below 2^32.
     BadId,
+    /// A weight that is no number below 2^32.
     BadWeight,
 }
 

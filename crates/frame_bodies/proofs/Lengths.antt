@@ -1,6 +1,7 @@
 -- How long the bodies of frames are.
 use Rattle.std.proofs.Common.{◌≡◌, ℕ, ◌*◌, ◌^◌, ◌≤◌, List, [], ◌∷◌, length, length-append, refl, arith}
 use Rattle.std.specs.Prelude.{flat_map}
+use Rattle.px_base.specs.declared.TheConstants.{MOST_VERTICES}
 use Rattle.px_base.specs.declared.wire.Update.{Update}
 use Rattle.px_base.specs.declared.wire.Order.TheVariants.{Step, Report}
 use Rattle.px_base.specs.declared.wire.Answer.TheVariants.{Stepped, Reported}
@@ -38,7 +39,7 @@ body_small (frame.Mirrors pairs) h = let few : length pairs ≤ 2 ^ 20 = h.0.1 i
 body_small (frame.Boundary vertices) h = let few : length vertices ≤ 2 ^ 20 = h.0.1 in omega (arith, length_vertices vertices)
 body_small (frame.Reads triples) h = let few : length triples ≤ 2 ^ 20 = h.0.1 in omega (arith, length_triples triples)
 body_small frame.Ready h = omega arith
-body_small (frame.Order (Step epoch round updates)) h = let few : length updates ≤ 2 ^ 22 = h.2 in omega (arith, length_pairs updates)
+body_small (frame.Order (Step epoch round updates)) h = let few : length updates ≤ MOST_VERTICES = h.2 in omega (arith, length_pairs updates)
 body_small (frame.Order (Report epoch)) h = omega arith
-body_small (frame.Answer (Stepped epoch round changed updates)) h = let few : length updates ≤ 2 ^ 22 = h.2 in omega (arith, length_pairs updates)
-body_small (frame.Answer (Reported epoch values)) h = let few : length values ≤ 2 ^ 22 = h.1 in omega (arith, length_values values)
+body_small (frame.Answer (Stepped epoch round changed updates)) h = let few : length updates ≤ MOST_VERTICES = h.2 in omega (arith, length_pairs updates)
+body_small (frame.Answer (Reported epoch values)) h = let few : length values ≤ MOST_VERTICES = h.1 in omega (arith, length_values values)

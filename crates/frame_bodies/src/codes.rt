@@ -1,8 +1,10 @@
+//! The codes by which parts of a program are written.
 ghost use Rattle.std.specs.Prelude.{◌≡◌};
 ghost use Rattle.px_base.specs.Frames.{form_code, reads_code, start_code, start_first, start_second, along_code, along_number, fold_code, fold_number, own_code, changed_code};
 
 use px_base::{Along, Fold, Form, Own, Rank, Reads, Start};
 
+/// The code of a form.
 pub fn form_code(form: Form) -> u8
     ensures { result ≡ form_code form }
 {
@@ -13,6 +15,7 @@ pub fn form_code(form: Form) -> u8
     }
 }
 
+/// The code of which reads are kept.
 pub fn reads_code(reads: Reads) -> u8
     ensures { result ≡ reads_code reads }
 {
@@ -64,6 +67,7 @@ pub fn fold_numbers(fold: Fold) -> (u8, u32)
     }
 }
 
+/// The code of what becomes of the own value.
 pub fn own_code(own: Own) -> u8
     ensures { result ≡ own_code own }
 {
@@ -73,6 +77,7 @@ pub fn own_code(own: Own) -> u8
     }
 }
 
+/// The byte that says whether a step changed a value.
 pub fn changed_code(changed: bool) -> u8
     ensures { result ≡ changed_code changed }
 {

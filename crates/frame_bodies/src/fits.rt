@@ -1,6 +1,8 @@
-ghost use Rattle.std.specs.Prelude.{◌≡◌, ◌<◌, ◌≤◌, ◌^◌, ◌↔◌, All, IsTrue, length};
+//! Which frames fit: their counts and numbers are within their limits, and their lists in their order.
+ghost use Rattle.std.specs.Prelude.{◌≡◌, ◌<◌, ◌≤◌, ◌↔◌, All, IsTrue, length};
 ghost use Rattle.std.specs.List.{AllAdjacentBelow};
 ghost use Rattle.std.specs.List.Sorted.{IsStrictlyIncreasing, IsSortedBy};
+ghost use Rattle.px_base.specs.declared.TheConstants.{MOST_VERTICES};
 ghost use Rattle.px_base.specs.Values.{IsValue};
 ghost use Rattle.px_base.specs.FrameFits.{IsVertex, IsWord, IsLoad, SetupFits, PairsFit, is_lower_triple, FrameFits};
 ghost use Rattle.px_base.specs.RowTexts.{IsRowAlong, IsRowFold, IsRowProgram, IsRowStart, IsRowValue};
@@ -17,10 +19,10 @@ const WORDS: u64 = 1 << 32;
 const MOST_ENTRIES: usize = 1 << 20;
 
 /// The most updates of an order or an answer, and the most values of an answer.
-const MOST_UPDATES: usize = 1 << 22;
+const MOST_UPDATES: usize = MOST_VERTICES as usize;
 
 /// The most reads of a part.
-const MOST_READS: u32 = 1 << 25;
+const MOST_READS: u32 = px_base::MOST_READS as u32;
 
 /// The most workers, and the most chunks.
 const MOST_WORKERS: u32 = 64;
@@ -154,12 +156,14 @@ fn are_triples(triples: &[Triple]) -> bool
 }
 
 fn updates_fit(updates: &[Update]) -> bool
-    ensures { IsTrue result ↔ ((length updates.now ≤ 2 ^ 22) × PairsFit updates.now) }
+    ensures { IsTrue result ↔ ((length updates.now ≤ MOST_VERTICES) × PairsFit updates.now) }
 {
     updates.len() <= MOST_UPDATES && pairs_fit(updates)
 }
 
-fn order_fits(order: &Order) -> bool
+/// Whether the order's frame has a spelling: there are at most 2^22 updates, by rising vertex, and each has a position and
+/// a value.
+pub fn order_fits(order: &Order) -> bool
     ensures { IsTrue result ↔ FrameFits (Frame.Order order.now) }
 {
     match order {
@@ -198,24 +202,44 @@ fn answer_fits(answer: &Answer) -> bool
     }
 }
 
+/// Whether the values' frame has a spelling: there are 1 to 2^20, and each is a value.
+pub fn starts_fit(values: &[Value]) -> bool
+    ensures { IsTrue result ↔ FrameFits (Frame.Starts values.now) }
+{
+    is_load(values.len()) && are_values(values)
+}
+
+/// Whether the pairs' frame has a spelling: there are 1 to 2^20, by rising vertex, and each has a position and a value.
+pub fn mirrors_fit(pairs: &[Update]) -> bool
+    ensures { IsTrue result ↔ FrameFits (Frame.Mirrors pairs.now) }
+{
+    is_load(pairs.len()) && pairs_fit(pairs)
+}
+
+/// Whether the vertices' frame has a spelling: there are 1 to 2^20, they rise, and each is a position.
+pub fn boundary_fits(vertices: &[Pos]) -> bool
+    ensures { IsTrue result ↔ FrameFits (Frame.Boundary vertices.now) }
+{
+    is_load(vertices.len()) && rise(vertices) && are_vertices(vertices)
+}
+
+/// Whether the triples' frame has a spelling: there are 1 to 2^20, they never fall, and their numbers are within limits.
+pub fn reads_fit(triples: &[Triple]) -> bool
+    ensures { IsTrue result ↔ FrameFits (Frame.Reads triples.now) }
+{
+    is_load(triples.len()) && never_fall(triples) && are_triples(triples)
+}
+
 /// Whether the frame has a spelling: its counts and numbers are within their limits, and its lists in their order.
 pub fn frame_fits(frame: &Frame) -> bool
     ensures { IsTrue result ↔ FrameFits frame.now }
 {
     match frame {
         Frame::Setup(setup) => setup_fits(setup),
-        Frame::Starts(values) => {
-            is_load(values.as_slice().len()) && are_values(values.as_slice())
-        }
-        Frame::Mirrors(pairs) => is_load(pairs.as_slice().len()) && pairs_fit(pairs.as_slice()),
-        Frame::Boundary(vertices) => {
-            let vertices = vertices.as_slice();
-            is_load(vertices.len()) && rise(vertices) && are_vertices(vertices)
-        }
-        Frame::Reads(triples) => {
-            let triples = triples.as_slice();
-            is_load(triples.len()) && never_fall(triples) && are_triples(triples)
-        }
+        Frame::Starts(values) => starts_fit(values.as_slice()),
+        Frame::Mirrors(pairs) => mirrors_fit(pairs.as_slice()),
+        Frame::Boundary(vertices) => boundary_fits(vertices.as_slice()),
+        Frame::Reads(triples) => reads_fit(triples.as_slice()),
         Frame::Ready => true,
         Frame::Order(order) => order_fits(order),
         Frame::Answer(answer) => answer_fits(answer),

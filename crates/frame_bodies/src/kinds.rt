@@ -1,41 +1,50 @@
-// The table of kinds. Each kind has a line in each of the four functions below that tell kinds apart, and a reader and a
-// writer of its own for its body.
-ghost use Rattle.std.specs.Prelude.{◌≡◌, ◌+◌, ◌^◌, ◌≤◌, ◌++◌, IfOk, length, vec_len, vec_capacity};
+//! The table of kinds. Each kind has a line in each of the functions below that tell kinds apart, and in `write_frame` of
+//! the crate above; and it has a reader and a writer of its own for its body. The kinds of orders are told apart in
+//! `orders`, those of answers in `answers`.
+ghost use Rattle.std.specs.Prelude.{◌≡◌, ◌^◌, ◌≤◌, IfOk, length};
 ghost use Rattle.px_base.specs.Frames.{kind_of, body_of};
 ghost use Rattle.px_base.specs.FrameFits.{FrameFits};
 ghost use Rattle.frame_bodies.specs.Bodies.{IsCandidate, IsBody};
 
-use crate::answers::{put_reported, put_stepped, read_reported, read_stepped};
+use crate::answers::{answer_kind, answer_length, read_reported, read_stepped};
 use crate::fits::frame_fits;
-use crate::lists::{put_pairs, put_triples, put_values, put_vertices};
+use crate::lists::{pairs_length, triples_length, values_length, vertices_length};
 use crate::loads::{
     read_boundary, read_mirrors, read_reads, read_ready, read_setup_frame, read_starts,
 };
-use crate::numbers::put_four;
-use crate::orders::{put_step, read_report, read_step};
-use crate::setup::put_setup;
-use px_base::{Answer, Frame, Memory, Order};
+use crate::orders::{order_kind, order_length, read_report, read_step};
+use crate::setup::SETUP_LENGTH;
+use px_base::{Frame, Memory};
 use std::alloc::Global;
 
-// The kinds, as they stand in a header.
+/// The kind of a setup, as it stands in a header.
 pub const SETUP: u8 = 1;
 
+/// The kind of start values.
 pub const STARTS: u8 = 2;
 
+/// The kind of mirrors and their values.
 pub const MIRRORS: u8 = 3;
 
+/// The kind of boundary vertices.
 pub const BOUNDARY: u8 = 4;
 
+/// The kind of reads.
 pub const READS: u8 = 5;
 
+/// The kind of the frame that ends a load.
 pub const READY: u8 = 6;
 
+/// The kind of an order to step.
 pub const STEP: u8 = 7;
 
+/// The kind of an order to report.
 pub const REPORT: u8 = 8;
 
+/// The kind of an answer to a step.
 pub const STEPPED: u8 = 9;
 
+/// The kind of an answer to a report.
 pub const REPORTED: u8 = 10;
 
 /// The kind of the frame.
@@ -49,67 +58,27 @@ pub fn kind_of(frame: &Frame) -> u8
         Frame::Boundary(_) => BOUNDARY,
         Frame::Reads(_) => READS,
         Frame::Ready => READY,
-        Frame::Order(Order::Step { .. }) => STEP,
-        Frame::Order(Order::Report { .. }) => REPORT,
-        Frame::Answer(Answer::Stepped { .. }) => STEPPED,
-        Frame::Answer(Answer::Reported { .. }) => REPORTED,
+        Frame::Order(order) => order_kind(order),
+        Frame::Answer(answer) => answer_kind(answer),
     }
 }
 
 /// The length of the frame's body in bytes.
-#[tactic(auto, using(crate::proofs::Lengths::body_small, crate::proofs::Lengths::length_values, crate::proofs::Lengths::length_pairs, crate::proofs::Lengths::length_vertices, crate::proofs::Lengths::length_triples))]
+#[tactic(auto, using(crate::proofs::Lengths::body_small))]
 pub fn body_length(frame: &Frame) -> usize
     requires { FrameFits frame.now }
     ensures is { result ≡ length (body_of frame.now) }
     ensures small { result ≤ 2 ^ 26 }
 {
     match frame {
-        Frame::Setup(_) => 62,
-        Frame::Starts(values) => 8 * values.as_slice().len(),
-        Frame::Mirrors(pairs) => 12 * pairs.as_slice().len(),
-        Frame::Boundary(vertices) => 4 * vertices.as_slice().len(),
-        Frame::Reads(triples) => 12 * triples.as_slice().len(),
+        Frame::Setup(_) => SETUP_LENGTH,
+        Frame::Starts(values) => values_length(values.as_slice()),
+        Frame::Mirrors(pairs) => pairs_length(pairs.as_slice()),
+        Frame::Boundary(vertices) => vertices_length(vertices.as_slice()),
+        Frame::Reads(triples) => triples_length(triples.as_slice()),
         Frame::Ready => 0,
-        Frame::Order(Order::Step { updates, .. }) => 16 + 12 * updates.as_slice().len(),
-        Frame::Order(Order::Report { .. }) => 4,
-        Frame::Answer(Answer::Stepped { updates, .. }) => 17 + 12 * updates.as_slice().len(),
-        Frame::Answer(Answer::Reported { values, .. }) => 8 + 8 * values.as_slice().len(),
-    }
-}
-
-/// Appends the frame's body, for which there is room.
-#[tactic(auto, using(crate::proofs::Lengths::length_values, crate::proofs::Lengths::length_pairs, crate::proofs::Lengths::length_vertices, crate::proofs::Lengths::length_triples))]
-pub fn put_body(out: &mut Vec<u8>, frame: &Frame)
-    requires fits { FrameFits frame.now }
-    requires room { vec_len out.old + length (body_of frame.now) ≤ vec_capacity out.old }
-    ensures { out.new.items ≡ out.old.items ++ body_of frame.now }
-{
-    match frame {
-        Frame::Setup(setup) => put_setup(out, setup),
-        Frame::Starts(values) => put_values(out, values.as_slice()),
-        Frame::Mirrors(pairs) => put_pairs(out, pairs.as_slice()),
-        Frame::Boundary(vertices) => put_vertices(out, vertices.as_slice()),
-        Frame::Reads(triples) => put_triples(out, triples.as_slice()),
-        Frame::Ready => {}
-        Frame::Order(
-            Order::Step {
-                epoch,
-                round,
-                updates,
-            },
-        ) => put_step(out, *epoch, *round, updates.as_slice()),
-        Frame::Order(Order::Report { epoch }) => put_four(out, *epoch),
-        Frame::Answer(
-            Answer::Stepped {
-                epoch,
-                round,
-                changed,
-                updates,
-            },
-        ) => put_stepped(out, *epoch, *round, *changed, updates.as_slice()),
-        Frame::Answer(Answer::Reported { epoch, values }) => {
-            put_reported(out, *epoch, values.as_slice());
-        }
+        Frame::Order(order) => order_length(order),
+        Frame::Answer(answer) => answer_length(answer),
     }
 }
 

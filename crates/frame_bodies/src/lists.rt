@@ -1,4 +1,6 @@
+//! The entries of frames: lists of values, vertices, pairs and triples.
 ghost use Rattle.std.specs.Prelude.{◌≡◌, ◌+◌, ◌*◌, ◌<◌, ◌≤◌, ◌%◌, ◌++◌, All, IfOk, MatchOption, length, flat_map, vec_len, vec_capacity};
+ghost use Rattle.px_base.specs.declared.TheConstants.{MOST_VERTICES};
 ghost use Rattle.px_base.specs.Frames.{four_bytes, eight_bytes, pair_bytes, triple_bytes};
 ghost use Rattle.px_base.specs.FrameFits.{IsWord};
 ghost use Rattle.frame_bodies.specs.Widths.{IsLong, PairHasRoom, TripleHasRoom};
@@ -8,8 +10,20 @@ use crate::take::{take_eight, take_four};
 use px_base::{Memory, Pos, Triple, Update, Value};
 use std::alloc::Global;
 
+/// The length of the values' bytes.
+#[tactic(auto, using(crate::proofs::Lengths::length_values))]
+pub fn values_length(values: &[Value]) -> usize
+    requires { length values.now ≤ MOST_VERTICES }
+    ensures is { result ≡ length (flat_map eight_bytes values.now) }
+    ensures small { result ≤ 8 * MOST_VERTICES }
+{
+    8 * values.len()
+}
+
+/// Appends the values, for which there is room.
+#[tactic(auto, using(crate::proofs::Lengths::length_values))]
 pub fn put_values(out: &mut Vec<u8>, values: &[Value])
-    requires { vec_len out.old + 8 * length values.now ≤ vec_capacity out.old }
+    requires { vec_len out.old + length (flat_map eight_bytes values.now) ≤ vec_capacity out.old }
     ensures { out.new.items ≡ out.old.items ++ flat_map eight_bytes values.now }
 {
     for value in values {
@@ -32,8 +46,20 @@ pub fn read_values(alloc: Global, bytes: &[u8]) -> Result<Vec<Value>, Memory>
     Ok(values)
 }
 
+/// The length of the vertices' bytes.
+#[tactic(auto, using(crate::proofs::Lengths::length_vertices))]
+pub fn vertices_length(vertices: &[Pos]) -> usize
+    requires { length vertices.now ≤ MOST_VERTICES }
+    ensures is { result ≡ length (flat_map four_bytes vertices.now) }
+    ensures small { result ≤ 4 * MOST_VERTICES }
+{
+    4 * vertices.len()
+}
+
+/// Appends the vertices, for which there is room.
+#[tactic(auto, using(crate::proofs::Lengths::length_vertices))]
 pub fn put_vertices(out: &mut Vec<u8>, vertices: &[Pos])
-    requires { vec_len out.old + 4 * length vertices.now ≤ vec_capacity out.old }
+    requires { vec_len out.old + length (flat_map four_bytes vertices.now) ≤ vec_capacity out.old }
     ensures { out.new.items ≡ out.old.items ++ flat_map four_bytes vertices.now }
 {
     for vertex in vertices {
@@ -66,8 +92,20 @@ fn put_pair(out: &mut Vec<u8>, pair: &Update)
     put_eight(out, pair.value);
 }
 
+/// The length of the pairs' bytes.
+#[tactic(auto, using(crate::proofs::Lengths::length_pairs))]
+pub fn pairs_length(pairs: &[Update]) -> usize
+    requires { length pairs.now ≤ MOST_VERTICES }
+    ensures is { result ≡ length (flat_map pair_bytes pairs.now) }
+    ensures small { result ≤ 12 * MOST_VERTICES }
+{
+    12 * pairs.len()
+}
+
+/// Appends the pairs, for which there is room.
+#[tactic(auto, using(crate::proofs::Lengths::length_pairs))]
 pub fn put_pairs(out: &mut Vec<u8>, pairs: &[Update])
-    requires { vec_len out.old + 12 * length pairs.now ≤ vec_capacity out.old }
+    requires { vec_len out.old + length (flat_map pair_bytes pairs.now) ≤ vec_capacity out.old }
     ensures { out.new.items ≡ out.old.items ++ flat_map pair_bytes pairs.now }
 {
     for pair in pairs {
@@ -110,8 +148,20 @@ fn put_triple(out: &mut Vec<u8>, triple: &Triple)
     put_four(out, triple.weight as u32);
 }
 
+/// The length of the triples' bytes.
+#[tactic(auto, using(crate::proofs::Lengths::length_triples))]
+pub fn triples_length(triples: &[Triple]) -> usize
+    requires { length triples.now ≤ MOST_VERTICES }
+    ensures is { result ≡ length (flat_map triple_bytes triples.now) }
+    ensures small { result ≤ 12 * MOST_VERTICES }
+{
+    12 * triples.len()
+}
+
+/// Appends the triples, for which there is room.
+#[tactic(auto, using(crate::proofs::Lengths::length_triples))]
 pub fn put_triples(out: &mut Vec<u8>, triples: &[Triple])
-    requires room { vec_len out.old + 12 * length triples.now ≤ vec_capacity out.old }
+    requires room { vec_len out.old + length (flat_map triple_bytes triples.now) ≤ vec_capacity out.old }
     requires weights { All (λ t. IsWord t.weight) triples.now }
     ensures { out.new.items ≡ out.old.items ++ flat_map triple_bytes triples.now }
 {

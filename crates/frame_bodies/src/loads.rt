@@ -1,3 +1,4 @@
+//! The bodies of a load.
 ghost use Rattle.std.specs.Prelude.{◌≡◌, IfOk};
 ghost use Rattle.frame_bodies.specs.Bodies.{IsCandidate};
 
@@ -6,6 +7,7 @@ use crate::setup::read_setup;
 use px_base::{Frame, Items, Memory};
 use std::alloc::Global;
 
+/// The setup's frame of this body.
 pub fn read_setup_frame(body: &[u8]) -> Option<Frame>
     ensures { IsCandidate 1 body.now result }
 {
@@ -15,6 +17,7 @@ pub fn read_setup_frame(body: &[u8]) -> Option<Frame>
     }
 }
 
+/// The starts' frame of this body, within the limits or not.
 pub fn read_starts(alloc: Global, body: &[u8]) -> Result<Option<Frame>, Memory>
     ensures { IfOk result (IsCandidate 2 body.now) }
 {
@@ -25,6 +28,7 @@ pub fn read_starts(alloc: Global, body: &[u8]) -> Result<Option<Frame>, Memory>
     Ok(Some(Frame::Starts(Items::from_vec(values))))
 }
 
+/// The mirrors' frame of this body, within the limits or not.
 pub fn read_mirrors(alloc: Global, body: &[u8]) -> Result<Option<Frame>, Memory>
     ensures { IfOk result (IsCandidate 3 body.now) }
 {
@@ -35,6 +39,7 @@ pub fn read_mirrors(alloc: Global, body: &[u8]) -> Result<Option<Frame>, Memory>
     Ok(Some(Frame::Mirrors(Items::from_vec(pairs))))
 }
 
+/// The boundary's frame of this body, within the limits or not.
 pub fn read_boundary(alloc: Global, body: &[u8]) -> Result<Option<Frame>, Memory>
     ensures { IfOk result (IsCandidate 4 body.now) }
 {
@@ -45,6 +50,7 @@ pub fn read_boundary(alloc: Global, body: &[u8]) -> Result<Option<Frame>, Memory
     Ok(Some(Frame::Boundary(Items::from_vec(vertices))))
 }
 
+/// The reads' frame of this body, within the limits or not.
 pub fn read_reads(alloc: Global, body: &[u8]) -> Result<Option<Frame>, Memory>
     ensures { IfOk result (IsCandidate 5 body.now) }
 {
@@ -55,6 +61,7 @@ pub fn read_reads(alloc: Global, body: &[u8]) -> Result<Option<Frame>, Memory>
     Ok(Some(Frame::Reads(Items::from_vec(triples))))
 }
 
+/// The ready frame, where the body is empty.
 pub fn read_ready(body: &[u8]) -> Option<Frame>
     ensures { IsCandidate 6 body.now result }
 {

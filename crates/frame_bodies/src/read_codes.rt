@@ -1,3 +1,4 @@
+//! The parts of a program that codes and numbers say.
 ghost use Rattle.std.specs.Prelude.{◌≡◌, ◌≤◌, ◌⊎◌, MatchOption};
 ghost use Rattle.px_base.specs.declared.program.Form.{Form as FormData};
 ghost use Rattle.px_base.specs.declared.program.Reads.{Reads as ReadsData};
@@ -10,6 +11,7 @@ ghost use Rattle.frame_bodies.specs.Codes.{HasStartNumbers, HasAlongNumbers, Has
 
 use px_base::{Along, Fold, Form, Own, Rank, Reads, Start};
 
+/// The form of this code.
 pub fn form_of(code: u8) -> Option<Form>
     ensures { MatchOption result ((form : FormData) → form_code form ≡ code → ⊥) (λ form. form_code form ≡ code) }
 {
@@ -21,6 +23,7 @@ pub fn form_of(code: u8) -> Option<Form>
     }
 }
 
+/// Which reads this code keeps.
 pub fn reads_of(code: u8) -> Option<Reads>
     ensures { MatchOption result ((reads : ReadsData) → reads_code reads ≡ code → ⊥) (λ reads. reads_code reads ≡ code) }
 {
@@ -92,6 +95,7 @@ pub fn fold_of(code: u8, number: u32) -> Option<Fold>
     }
 }
 
+/// What becomes of the own value by this code.
 pub fn own_of(code: u8) -> Option<Own>
     ensures { MatchOption result ((own : OwnData) → own_code own ≡ code → ⊥) (λ own. own_code own ≡ code) }
 {
@@ -102,6 +106,7 @@ pub fn own_of(code: u8) -> Option<Own>
     }
 }
 
+/// Whether a step changed a value, by this byte.
 pub fn changed_of(code: u8) -> Option<bool>
     ensures { MatchOption result (2 ≤ code) (λ changed. changed_code changed ≡ code) }
 {

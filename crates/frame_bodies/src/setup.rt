@@ -1,3 +1,4 @@
+//! The body of a setup.
 ghost use Rattle.std.specs.Prelude.{◌≡◌, ◌+◌, ◌<◌, ◌≤◌, ◌++◌, MatchOption, length, vec_len, vec_capacity, List, ℕ};
 ghost use Rattle.px_base.specs.declared.program.Program.{Program as ProgramData};
 ghost use Rattle.px_base.specs.declared.frame.Setup.{Setup as SetupData};
@@ -11,6 +12,9 @@ use crate::numbers::{put, put_eight, put_four};
 use crate::read_codes::{along_of, fold_of, form_of, own_of, reads_of, start_of};
 use crate::take::{take_byte, take_eight, take_four};
 use px_base::{Pos, Program, Setup};
+
+/// The length of a setup's body in bytes.
+pub const SETUP_LENGTH: usize = 62;
 
 /// The codes and numbers by which a program is written.
 #[derive(Clone, Copy)]
@@ -112,6 +116,7 @@ pub fn read_setup(bytes: &[u8]) -> Option<Setup>
     })
 }
 
+/// Appends the program's bytes, for which there is room.
 #[tactic(auto, using(std::proofs::lemmas::List::append_assoc))]
 fn put_program(out: &mut Vec<u8>, program: &Program)
     requires { vec_len out.old + 34 ≤ vec_capacity out.old }
@@ -134,6 +139,7 @@ fn put_program(out: &mut Vec<u8>, program: &Program)
     put(out, &[own_code(program.own)]);
 }
 
+/// Appends the setup's body, for which there is room.
 #[tactic(auto, using(std::proofs::lemmas::List::append_assoc))]
 pub fn put_setup(out: &mut Vec<u8>, setup: &Setup)
     requires { vec_len out.old + 62 ≤ vec_capacity out.old }

@@ -8,7 +8,11 @@ mod samples;
 mod tests {
     use crate::samples::{Sample, bytes_of, samples};
     use px_base::Memory;
-    use px_frames::{Decoder, FeedFault, Frame, frame_fits, write_frame};
+    use px_frames::{
+        Decoder, FeedFault, Frame, boundary_fits, frame_fits, mirrors_fit, order_fits, reads_fit,
+        starts_fit, write_boundary, write_frame, write_mirrors, write_order, write_reads,
+        write_starts,
+    };
     use std::alloc::Global;
     use std::process::Abort;
     use std::test::Fail;
@@ -83,6 +87,53 @@ mod tests {
                 assert_read(&rt, rt.alloc(), sample, most)?;
             }
         }
+        Ok(())
+    }
+
+    /// Writes what the frame has by the writer that takes it lent, and says whether its kind has one.
+    fn write_lent<R: Abort>(rt: &R, out: &mut Vec<u8>, frame: &Frame) -> Result<bool, Memory> {
+        match frame {
+            Frame::Starts(values) => {
+                assert!(rt; starts_fit(values.as_slice()));
+                write_starts(out, values.as_slice())?;
+            }
+            Frame::Mirrors(pairs) => {
+                assert!(rt; mirrors_fit(pairs.as_slice()));
+                write_mirrors(out, pairs.as_slice())?;
+            }
+            Frame::Boundary(vertices) => {
+                assert!(rt; boundary_fits(vertices.as_slice()));
+                write_boundary(out, vertices.as_slice())?;
+            }
+            Frame::Reads(triples) => {
+                assert!(rt; reads_fit(triples.as_slice()));
+                write_reads(out, triples.as_slice())?;
+            }
+            Frame::Order(order) => {
+                assert!(rt; order_fits(order));
+                write_order(out, order)?;
+            }
+            Frame::Setup(_) | Frame::Ready | Frame::Answer(_) => return Ok(false),
+        }
+        Ok(true)
+    }
+
+    /// The kinds of a load's entries, and both orders.
+    #[test]
+    fn lent_spellings(rt: HostRuntime) -> Result<(), Fail> {
+        let mut lent = 0usize;
+        for sample in &samples(rt.alloc())? {
+            let Sample { text, frame } = sample;
+            let mut out = [7].to_vec(rt.alloc())?;
+            if !write_lent(&rt, &mut out, frame)? {
+                continue;
+            }
+            let mut want = [7].to_vec(rt.alloc())?;
+            want.extend_from_slice(&bytes_of(rt.alloc(), text)?)?;
+            assert_eq!(&rt; out.as_slice(), want.as_slice(), "{text}");
+            lent = lent.saturating_add(1);
+        }
+        assert_eq!(&rt; lent, 6);
         Ok(())
     }
 

@@ -1,3 +1,4 @@
+//! Frames of each kind, for the rows.
 use hex::FromHexError;
 use px_base::{
     Along, Answer, Fold, Form, Frame, Items, Memory, Order, Own, Program, Rank, Reads, Setup,

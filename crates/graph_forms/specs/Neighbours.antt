@@ -6,18 +6,13 @@ use Rattle.px_base.specs.declared.graph.Read.{Read}
 use Rattle.px_base.specs.declared.program.Form.{Form}
 use Rattle.px_base.specs.declared.program.Form.TheVariants.{Given, Back}
 use Rattle.px_base.specs.Graphs.{unit_read}
-use Rattle.graph_forms.specs.declared.fill.Direction.{Direction}
-use Rattle.graph_forms.specs.declared.fill.Direction.TheVariants as direction
+use Rattle.row_blocks.specs.declared.told.Direction.{Direction}
+use Rattle.row_blocks.specs.declared.told.Direction.TheVariants as direction
 
 -- the form in which the edges are read this way
 abbrev pub form_of : Direction → Form
 form_of direction.Forward = Given
 form_of direction.Backward = Back
-
--- the edge, turned round where it is read backward: its target is who reads
-abbrev pub turned : Direction → Edge → Edge
-turned direction.Forward e = e
-turned direction.Backward e = record { source = e.target; target = e.source; weight = e.weight }
 
 -- the end of the edge that v gets to read: none where the edge is a loop, or v is no end of it
 abbrev pub other_end : Edge → ℕ → List ℕ

@@ -1,83 +1,130 @@
-ghost use Rattle.std.specs.Prelude.{◌≡◌, ◌≤◌, ◌<◌, ◌^◌, ◌*◌, ℕ, All, IfOk, [], length, map, slice_index_or};
-ghost use Rattle.px_base.specs.Graphs.{IsGraphOf, IsRowOf, RowsFit, is_neighbour, kept_reads, read_count, reads_of, row_at};
+//! The graph of a list of edges.
+ghost use Rattle.std.specs.Prelude.{◌≡◌, ◌≤◌, ◌<◌, ◌*◌, All, IfOk, length};
+ghost use Rattle.px_base.specs.declared.TheConstants.{MOST_EDGES, MOST_VERTICES};
+ghost use Rattle.px_base.specs.declared.program.Form.TheVariants.{Simple};
+ghost use Rattle.px_base.specs.declared.program.Reads.TheVariants as reads_kind;
+ghost use Rattle.px_base.specs.Graphs.{IsGraphOf, RowsFit, read_count, reads_of};
 ghost use Rattle.px_base.specs.Values.{IsWeight, by_position};
-ghost use Rattle.graph_forms.specs.Neighbours.{HasMembers, form_of};
+ghost use Rattle.graph_forms.specs.Neighbours.{form_of};
+ghost use Rattle.graph_forms.specs.Ordering.{AreRowsOf};
 
-use crate::fill::{Direction, fill_rows};
-use crate::neighbours::{fill_neighbours, unit_rows};
-use crate::order::{given_away, order_rows, row_lengths};
-use crate::room::{empty_rows, room_needed};
-use crate::row::Row;
-use px_base::{Edge, EdgeList, Form, Items, Memory, Pos, Read, ReadGraph, Reads};
+use crate::keep::{earlier_rows, row_lengths};
+use crate::order::{in_order, ordered_rows};
+use crate::units::unit_rows;
+use px_base::{Edge, EdgeList, Form, Items, Memory, Rank, ReadGraph, Reads, Rows};
+use row_blocks::{Direction, blocks_of_edges, blocks_of_ends, rows_of_blocks};
 use std::alloc::Global;
 
-/// Rows of what one end of each edge reads.
-fn read_rows(
-    alloc: Global,
-    counts: &[u32],
-    direction: Direction,
-    edges: &[Edge],
-) -> Result<Vec<Row<Read>>, Memory>
-    ensures reads { IfOk result (λ rows. rows.items ≡ by_position (length counts.now) (reads_of (form_of direction) (length counts.now) edges.now)) }
+/// Rows of what one end of each edge reads, as the edges come.
+fn directed(alloc: Global, n: u32, direction: Direction, edges: &[Edge]) -> Result<Rows, Memory>
+    requires lines { length edges.now ≤ MOST_EDGES }
+    requires ends { All (λ e. (e.source < n) × (e.target < n) × IsWeight e.weight) edges.now }
+    ensures { IfOk result (λ rows. rows ≡ by_position n (reads_of (form_of direction) n edges.now)) }
 {
-    let mut rows = empty_rows(alloc, counts)?;
-    fill_rows(&mut rows, direction, edges)?;
+    let blocks = blocks_of_edges(alloc, n, direction, edges)?;
+    let rows = rows_of_blocks(alloc, n, &blocks)?;
     Ok(rows)
 }
 
-/// Rows of neighbours, in the order of the edges and as often as an edge names them.
-fn neighbour_rows(alloc: Global, counts: &[u32], edges: &[Edge]) -> Result<Vec<Row<Pos>>, Memory>
-    ensures one_each { IfOk result (λ rows. length rows.items ≡ length counts.now) }
-    ensures members { IfOk result (λ rows. (v : ℕ) → v < length counts.now → HasMembers (is_neighbour edges.now v) (slice_index_or rows.items v [])) }
+/// Rows of what one end of each edge reads, in order.
+fn directed_in_order(
+    alloc: Global,
+    n: u32,
+    direction: Direction,
+    edges: &[Edge],
+) -> Result<Rows, Memory>
+    requires lines { length edges.now ≤ MOST_EDGES }
+    requires ends { All (λ e. (e.source < n) × (e.target < n) × IsWeight e.weight) edges.now }
+    ensures { IfOk result (λ rows. AreRowsOf (by_position n (reads_of (form_of direction) n edges.now)) rows) }
 {
-    let mut rows = empty_rows(alloc, counts)?;
-    fill_neighbours(&mut rows, edges)?;
+    let blocks = blocks_of_edges(alloc, n, direction, edges)?;
+    let rows = ordered_rows(alloc, n, &blocks)?;
     Ok(rows)
 }
 
 /// Rows of what each vertex reads, where it reads each neighbour once.
-fn simple_rows(alloc: Global, counts: &[u32], edges: &[Edge]) -> Result<Vec<Row<Read>>, Memory>
-    requires ends { All (λ e. (e.source < length counts.now) × (e.target < length counts.now)) edges.now }
-    ensures reads { IfOk result (λ rows. rows.items ≡ by_position (length counts.now) (reads_of Form.Simple (length counts.now) edges.now)) }
+fn simple(alloc: Global, n: u32, edges: &[Edge]) -> Result<Rows, Memory>
+    requires lines { length edges.now ≤ MOST_EDGES }
+    requires ends { All (λ e. (e.source < n) × (e.target < n)) edges.now }
+    ensures { IfOk result (λ rows. rows ≡ by_position n (reads_of Simple n edges.now)) }
 {
-    let neighbours = neighbour_rows(alloc, counts, edges)?;
-    let rows = unit_rows(alloc, neighbours)?;
+    let blocks = blocks_of_ends(alloc, n, edges)?;
+    let rows = unit_rows(alloc, n, &blocks)?;
     Ok(rows)
 }
 
-/// The reads of each vertex among n, in some order.
-fn unordered_rows(
-    alloc: Global,
-    n: usize,
-    form: Form,
-    edges: &[Edge],
-) -> Result<Vec<Row<Read>>, Memory>
+/// The reads of each vertex, in some order.
+fn unordered_rows(alloc: Global, n: u32, form: Form, edges: &[Edge]) -> Result<Rows, Memory>
+    requires lines { length edges.now ≤ MOST_EDGES }
     requires ends { All (λ e. (e.source < n) × (e.target < n) × IsWeight e.weight) edges.now }
-    ensures reads { IfOk result (λ rows. rows.items ≡ by_position n (reads_of form n edges.now)) }
+    ensures { IfOk result (λ rows. rows ≡ by_position n (reads_of form n edges.now)) }
 {
-    let counts = room_needed(alloc, n, form, edges)?;
     match form {
-        Form::Given => read_rows(alloc, &counts, Direction::Forward, edges),
-        Form::Back => read_rows(alloc, &counts, Direction::Backward, edges),
-        Form::Simple => simple_rows(alloc, &counts, edges),
+        Form::Given => directed(alloc, n, Direction::Forward, edges),
+        Form::Back => directed(alloc, n, Direction::Backward, edges),
+        Form::Simple => simple(alloc, n, edges),
     }
 }
 
-/// The graph of such rows: their lengths are the degrees, and then the reads are left out that are not kept.
-fn graph_of(alloc: Global, mut rows: Vec<Row<Read>>, reads: Reads) -> Result<ReadGraph, Memory>
-    requires vertices { length rows.items ≤ 2 ^ 22 }
-    requires count { read_count rows.items ≤ 2 ^ 25 }
-    ensures size { IfOk result (λ graph. graph.n ≡ length rows.items) }
-    ensures one_each { IfOk result (λ graph. length graph.rows ≡ length rows.items) }
-    ensures degrees { IfOk result (λ graph. graph.degrees ≡ map (λ row. length row) rows.items) }
-    ensures rows { IfOk result (λ graph. (v : ℕ) → v < length rows.items → IsRowOf (kept_reads reads graph.degrees v (row_at rows.items v)) (row_at graph.rows v)) }
+/// Simple rows are in order by themselves.
+#[tactic(auto, using(crate::proofs::Graphs::simple_rows_in_order))]
+fn simple_in_order(alloc: Global, n: u32, edges: &[Edge]) -> Result<Rows, Memory>
+    requires lines { length edges.now ≤ MOST_EDGES }
+    requires ends { All (λ e. (e.source < n) × (e.target < n)) edges.now }
+    ensures { IfOk result (λ rows. AreRowsOf (by_position n (reads_of Simple n edges.now)) rows) }
 {
-    let n = rows.len() as u32;
+    let rows = simple(alloc, n, edges)?;
+    Ok(rows)
+}
+
+/// The reads of each vertex, in order.
+fn rows_in_order(alloc: Global, n: u32, form: Form, edges: &[Edge]) -> Result<Rows, Memory>
+    requires lines { length edges.now ≤ MOST_EDGES }
+    requires ends { All (λ e. (e.source < n) × (e.target < n) × IsWeight e.weight) edges.now }
+    ensures { IfOk result (λ rows. AreRowsOf (by_position n (reads_of form n edges.now)) rows) }
+{
+    match form {
+        Form::Given => directed_in_order(alloc, n, Direction::Forward, edges),
+        Form::Back => directed_in_order(alloc, n, Direction::Backward, edges),
+        Form::Simple => simple_in_order(alloc, n, edges),
+    }
+}
+
+/// The graph that keeps all reads.
+fn graph_of_all(alloc: Global, n: u32, form: Form, edges: &[Edge]) -> Result<ReadGraph, Memory>
+    requires lines { length edges.now ≤ MOST_EDGES }
+    requires ends { All (λ e. (e.source < n) × (e.target < n) × IsWeight e.weight) edges.now }
+    ensures { IfOk result (λ graph. IsGraphOf form reads_kind.All n edges.now graph) }
+{
+    let rows = rows_in_order(alloc, n, form, edges)?;
     let degrees = row_lengths(alloc, &rows)?;
-    order_rows(&mut rows, &degrees, reads);
     Ok(ReadGraph {
         n,
-        rows: given_away(alloc, rows)?,
+        rows,
+        degrees: Items::from_vec(degrees),
+    })
+}
+
+/// The graph that keeps the reads whose source stands before the reader.
+fn graph_of_earlier(
+    alloc: Global,
+    n: u32,
+    form: Form,
+    rank: Rank,
+    edges: &[Edge],
+) -> Result<ReadGraph, Memory>
+    requires lines { length edges.now ≤ MOST_EDGES }
+    requires ends { All (λ e. (e.source < n) × (e.target < n) × IsWeight e.weight) edges.now }
+    ensures { IfOk result (λ graph. IsGraphOf form (reads_kind.Earlier rank) n edges.now graph) }
+{
+    let all = unordered_rows(alloc, n, form, edges)?;
+    let degrees = row_lengths(alloc, &all)?;
+    let kept = earlier_rows(alloc, &all, rank, &degrees)?;
+    drop(all);
+    let rows = in_order(alloc, &kept)?;
+    Ok(ReadGraph {
+        n,
+        rows,
         degrees: Items::from_vec(degrees),
     })
 }
@@ -85,38 +132,33 @@ fn graph_of(alloc: Global, mut rows: Vec<Row<Read>>, reads: Reads) -> Result<Rea
 /// The graph of these edges over n vertices.
 fn graph_of_edges(
     alloc: Global,
-    n: usize,
+    n: u32,
     edges: &[Edge],
     form: Form,
     reads: Reads,
 ) -> Result<ReadGraph, Memory>
-    requires vertices { n ≤ 2 ^ 22 }
-    requires lines { length edges.now ≤ 2 ^ 24 }
+    requires lines { length edges.now ≤ MOST_EDGES }
     requires ends { All (λ e. (e.source < n) × (e.target < n) × IsWeight e.weight) edges.now }
-    ensures graph { IfOk result (λ graph. IsGraphOf form reads n edges.now graph) }
-    ensures fits { IfOk result (λ graph. RowsFit n graph.rows) }
-    ensures count { IfOk result (λ graph. read_count graph.rows ≤ 2 * length edges.now) }
+    ensures { IfOk result (λ graph. IsGraphOf form reads n edges.now graph) }
 {
-    let rows = unordered_rows(alloc, n, form, edges)?;
-    let graph = graph_of(alloc, rows, reads)?;
-    Ok(graph)
+    match reads {
+        Reads::All => graph_of_all(alloc, n, form, edges),
+        Reads::Earlier(rank) => graph_of_earlier(alloc, n, form, rank, edges),
+    }
 }
 
 /// The graph of the edges: each vertex's reads in this form, and those of them that are kept.
 /// The only error is want of memory.
+#[tactic(auto, using(crate::proofs::Made::rows_fit, crate::proofs::Counting::few_reads))]
 pub fn build(alloc: Global, edges: &EdgeList, form: Form, reads: Reads) -> Result<ReadGraph, Memory>
-    requires vertices { length edges.now.ids ≤ 2 ^ 22 }
-    requires lines { length edges.now.edges ≤ 2 ^ 24 }
+    requires vertices { length edges.now.ids ≤ MOST_VERTICES }
+    requires lines { length edges.now.edges ≤ MOST_EDGES }
     requires ends { All (λ e. (e.source < length edges.now.ids) × (e.target < length edges.now.ids) × IsWeight e.weight) edges.now.edges }
     ensures graph { IfOk result (λ graph. IsGraphOf form reads (length edges.now.ids) edges.now.edges graph) }
     ensures fits { IfOk result (λ graph. RowsFit (length edges.now.ids) graph.rows) }
     ensures count { IfOk result (λ graph. read_count graph.rows ≤ 2 * length edges.now.edges) }
 {
-    graph_of_edges(
-        alloc,
-        edges.ids.as_slice().len(),
-        edges.edges.as_slice(),
-        form,
-        reads,
-    )
+    let n = edges.ids.as_slice().len() as u32;
+    let graph = graph_of_edges(alloc, n, edges.edges.as_slice(), form, reads)?;
+    Ok(graph)
 }

@@ -1,65 +1,114 @@
-ghost use Rattle.std.specs.Prelude.{◌≡◌, ◌≤◌, ◌<◌, ◌^◌, ℕ, All, IfOk, length, map};
-ghost use Rattle.px_base.specs.Graphs.{IsRowOf, kept_reads, row_at, stands_before};
+//! Rows in order, by source and then weight.
+ghost use Rattle.std.specs.Prelude.{◌≡◌, ◌+◌, ◌≤◌, ◌<◌, ◌++◌, ◌↔◌, ◌^◌, [], ◌∷◌, ℕ, All, IfOk, IsTrue, List, OnOk, length, map, take};
+ghost use Rattle.std.specs.List.{AllAdjacentBelow};
+ghost use Rattle.px_base.specs.declared.TheConstants.{MOST_READS};
+ghost use Rattle.px_base.specs.declared.graph.Read.{Read as ReadData};
+ghost use Rattle.px_base.specs.Values.{IsWeight};
+ghost use Rattle.px_base.specs.Graphs.{IsRowOf, read_count, row_at};
+ghost use Rattle.row_blocks.specs.Telling.{rows_told};
+ghost use Rattle.row_blocks.specs.Blocks.{AreBlocks};
+ghost use Rattle.graph_forms.specs.Ordering.{AreRowsOf};
 
-use crate::row::Row;
-use px_base::{Items, Memory, Pos, Rank, Read, ReadGraph, Reads};
+use px_base::{Memory, Read, Row, RowWeight, Rows, RowsBuilder};
+use row_blocks::{Blocks, block_count, rows_of_block};
 use std::alloc::Global;
 
-/// How many reads each row has.
-pub fn row_lengths(alloc: Global, rows: &[Row<Read>]) -> Result<Vec<u32>, Memory>
-    requires { All (λ row. length row < 2 ^ 32) rows.now }
-    ensures { IfOk result (λ lengths. lengths.items ≡ map (λ row. length row) rows.now) }
+/// Whether each read has a higher source than the one before it.
+fn rises(reads: &[Read]) -> bool
+    ensures { IsTrue result ↔ AllAdjacentBelow (λ a b. a.source < b.source) reads.now (length reads.now) }
 {
-    let lengths = rows
-        .iter()
-        .map(|row| row.len() as u32)
-        .collect::<Vec<u32>>(alloc)?;
-    Ok(lengths)
+    reads.windows(2).all(|pair| pair[0].source < pair[1].source)
 }
 
-/// Leaves out the reads that are not kept, and puts each row in order.
-pub fn order_rows(rows: &mut [Row<Read>], degrees: &[u32], reads: Reads)
-    requires { length rows.old ≤ 2 ^ 22 }
-    ensures rows { (v : ℕ) → v < length rows.old → IsRowOf (kept_reads reads degrees.now v (row_at rows.old v)) (row_at rows.new v) }
+/// Puts the reads in order. Where they are, they are not sorted.
+fn put_in_order(reads: &mut Vec<Read>)
+    ensures { IsRowOf reads.old.items reads.new.items }
 {
-    for (v, row) in rows.iter_mut().enumerate() {
-        row.keep(reads, degrees, v as Pos);
-        row.sort();
+    if !rises(reads) {
+        reads.sort_unstable();
     }
 }
 
-/// Gives the rows away.
-pub fn given_away(alloc: Global, rows: Vec<Row<Read>>) -> Result<Items<Items<Read>>, Memory>
-    ensures { IfOk result (λ items. items ≡ rows.items) }
+/// Puts the reads of the row in place of those that are there.
+fn copy_row(reads: &mut Vec<Read>, row: &Row<'_>) -> Result<(), Memory>
+    ensures reads { OnOk result (reads.new.items ≡ row.now) }
+    ensures weights { OnOk result (All (λ r. IsWeight r.weight) reads.new.items) }
 {
-    let mut items = Vec::with_capacity(alloc, rows.len())?;
-    for row in rows {
-        items.push(row.into_items())?;
+    reads.clear();
+    for k in 0..row.len() {
+        reads.push(row.read(k))?;
     }
-    Ok(Items::from_vec(items))
+    Ok(())
 }
 
-/// Whether a stands before b in the rank: by position where the lower stands first, or by degree where the higher does,
-/// and of equal degrees the lower position.
-pub fn before(graph: &ReadGraph, rank: Rank, a: Pos, b: Pos) -> bool
-    requires degrees { length graph.now.degrees ≡ graph.now.n }
-    requires a { a < graph.now.n }
-    requires b { b < graph.now.n }
-    ensures { result ≡ stands_before rank graph.now.degrees a b }
+/// Puts the reads behind those of the row that is made, and ends the row.
+fn push_row(rows: &mut RowsBuilder, reads: &[Read]) -> Result<(), Memory>
+    requires weights { All (λ r. IsWeight r.weight) reads.now }
+    requires room { read_count rows.old.done + (length rows.old.open_row + length reads.now) ≤ MOST_READS }
+    ensures { OnOk result (rows.new ≡ record { done = rows.old.done ++ (rows.old.open_row ++ reads.now) ∷ []; open_row = [] }) }
 {
-    stands_before(rank, graph.degrees.as_slice(), a, b)
+    for read in reads {
+        rows.push(read.source, read.weight as RowWeight)?;
+    }
+    rows.end_row()?;
+    Ok(())
 }
 
-/// The same over the degrees alone. A vertex without an entry has the degree 0.
-pub fn stands_before(rank: Rank, degrees: &[u32], a: Pos, b: Pos) -> bool
-    ensures { result ≡ stands_before rank degrees.now a b }
+/// Puts a row of some in order behind the rows that are done.
+fn add_row(
+    rows: &mut RowsBuilder,
+    scratch: &mut Vec<Read>,
+    more: &Rows,
+    j: usize,
+) -> Result<(), Memory>
+    requires j { j < length more.now }
+    requires open { rows.old.open_row ≡ [] }
+    requires room { read_count rows.old.done + read_count more.now ≤ MOST_READS + read_count (take j more.now) }
+    ensures open { OnOk result (rows.new.open_row ≡ []) }
+    ensures done { OnOk result ((before : List (List ReadData)) → AreRowsOf before rows.old.done → AreRowsOf (before ++ row_at more.now j ∷ []) rows.new.done) }
 {
-    match rank {
-        Rank::ById => a < b,
-        Rank::ByDegree => {
-            let first = degrees.get(a as usize).copied().unwrap_or(0);
-            let second = degrees.get(b as usize).copied().unwrap_or(0);
-            second < first || (first == second && a < b)
-        }
+    copy_row(scratch, &more.row(j))?;
+    put_in_order(scratch);
+    push_row(rows, scratch)?;
+    Ok(())
+}
+
+/// Puts all rows in order behind those that are done.
+fn add_rows(rows: &mut RowsBuilder, scratch: &mut Vec<Read>, more: &Rows) -> Result<(), Memory>
+    requires open { rows.old.open_row ≡ [] }
+    requires room { read_count rows.old.done + read_count more.now ≤ MOST_READS }
+    requires some { (before : List (List ReadData)) × AreRowsOf before rows.old.done }
+    ensures open { OnOk result (rows.new.open_row ≡ []) }
+    ensures done { OnOk result ((before : List (List ReadData)) → AreRowsOf before rows.old.done → AreRowsOf (before ++ more.now) rows.new.done) }
+{
+    for j in 0..more.row_count() {
+        add_row(rows, scratch, more, j)?;
     }
+    Ok(())
+}
+
+/// The rows of `n` vertices that are told what lies in the blocks, in order. Errors: want of memory.
+pub fn ordered_rows(alloc: Global, n: u32, blocks: &Blocks) -> Result<Rows, Memory>
+    requires few { length blocks.now.told.items ≤ MOST_READS }
+    requires blocks { AreBlocks n blocks.now.starts.items blocks.now.told.items }
+    ensures { IfOk result (λ rows. AreRowsOf (rows_told n blocks.now.told.items) rows) }
+{
+    let mut rows = RowsBuilder::new(alloc, n as usize, blocks.told.len())?;
+    let mut scratch = Vec::new(alloc);
+    for b in 0..block_count(n) {
+        let more = rows_of_block(alloc, n, b, blocks)?;
+        add_rows(&mut rows, &mut scratch, &more)?;
+    }
+    Ok(rows.finish())
+}
+
+/// The rows in order. Errors: want of memory.
+pub fn in_order(alloc: Global, rows: &Rows) -> Result<Rows, Memory>
+    requires { length rows.now < 2 ^ 32 }
+    ensures { IfOk result (λ ordered. AreRowsOf rows.now ordered) }
+{
+    let mut ordered = RowsBuilder::new(alloc, rows.row_count(), rows.read_count())?;
+    let mut scratch = Vec::new(alloc);
+    add_rows(&mut ordered, &mut scratch, rows)?;
+    Ok(ordered.finish())
 }

@@ -1,5 +1,6 @@
 //! A small graph in two parts, and inboxes and a hub for it.
-ghost use Rattle.std.specs.Prelude.{◌≡◌, ◌≤◌, ◌^◌, length, IfOk};
+ghost use Rattle.std.specs.Prelude.{◌≡◌, ◌≤◌, length, IfOk};
+ghost use Rattle.px_base.specs.declared.TheConstants.{MOST_VERTICES};
 ghost use Rattle.px_base.specs.Graphs.{RowsFit};
 ghost use Rattle.px_base.specs.Lines.{EdgeListFits};
 ghost use Rattle.px_base.specs.Parts.{IsWorkerCuts, part_count};
@@ -33,7 +34,7 @@ fn list_of(alloc: Global, lines: &str) -> Result<EdgeList, Fail>
 /// The graph of the lines, where each target reads its source.
 fn graph_of(alloc: Global, lines: &str) -> Result<ReadGraph, Fail>
     ensures rows { IfOk result (λ graph. RowsFit graph.n graph.rows) }
-    ensures vertices { IfOk result (λ graph. graph.n ≤ 2 ^ 22) }
+    ensures vertices { IfOk result (λ graph. graph.n ≤ MOST_VERTICES) }
 {
     let list = list_of(alloc, lines)?;
     let graph = build(alloc, &list, Form::Given, Reads::All)?;
@@ -64,7 +65,7 @@ struct Halves {
 fn cut_in_two(alloc: Global) -> Result<Halves, Fail>
     ensures size { IfOk result (λ halves. halves.n ≡ vertex_count halves.cuts.ends) }
     ensures cuts { IfOk result (λ halves. IsWorkerCuts (vertex_count halves.cuts.ends) halves.cuts.ends) }
-    ensures few { IfOk result (λ halves. vertex_count halves.cuts.ends ≤ 2 ^ 22) }
+    ensures few { IfOk result (λ halves. vertex_count halves.cuts.ends ≤ MOST_VERTICES) }
     ensures routes { IfOk result (λ halves. AreRoutes (part_count halves.cuts.ends) halves.routes.to) }
     ensures one_each { IfOk result (λ halves. length halves.routes.to ≡ vertex_count halves.cuts.ends) }
 {
@@ -78,8 +79,11 @@ fn cut_in_two(alloc: Global) -> Result<Halves, Fail>
 /// New inboxes, the routes that they are for, and how many vertices there are.
 #[derive(Drop)]
 pub struct Made {
+    /// How many vertices the graph has.
     pub n: u32,
+    /// The route of each vertex.
     pub routes: RouteTable,
+    /// An empty inbox for each of the two workers.
     pub inboxes: Inboxes,
 }
 

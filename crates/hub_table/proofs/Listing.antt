@@ -1,5 +1,5 @@
 -- The lists of vertices, and what stands in them.
-use Rattle.std.proofs.Common.{◌≡◌, ℕ, ◌+◌, ◌-◌, ◌<◌, ◌≤◌, ◌^◌, ◌∙◌, Bool, true, false, List, [], length, get_or, refl, sym, ap, arith, inl, inr}
+use Rattle.std.proofs.Common.{◌≡◌, ℕ, ◌+◌, ◌-◌, ◌<◌, ◌≤◌, ◌∙◌, Bool, true, false, List, [], length, get_or, refl, sym, ap, arith, inl, inr}
 use Rattle.std.specs.Prelude.{All, filter}
 use Rattle.std.specs.List.{range_with_len}
 use Rattle.std.specs.List.Sorted.{IsStrictlyIncreasing}
@@ -8,6 +8,7 @@ use Rattle.std.proofs.lemmas.Bool.{cases_lt}
 use Rattle.std.proofs.Math.ListN.{get_or-eq_default}
 use Rattle.std.proofs.lemmas.List.FromFn.{length-range_with_len, get_or-range_with_len}
 use Rattle.std.proofs.lemmas.List.Kept.{IsStrictlyIncreasing-filter}
+use Rattle.px_base.specs.declared.TheConstants.{MOST_VERTICES}
 use Rattle.px_base.specs.Values.{is_listed, positions_below}
 use Rattle.px_base.specs.Parts.{IsCuts, is_within, low_of, high_of, part_count}
 use Rattle.px_base.proofs.Members.{contains_listed, listed_contains, range_rises}
@@ -67,6 +68,6 @@ mirrors_are cuts routes lists counting plain size each = record { size = size; l
 pub mirrors_rise : (routes : List (List ℕ)) (j : ℕ) → IsStrictlyIncreasing (filter (λ u. is_listed (route_at routes u) j) (positions_below (length routes)))
 mirrors_rise routes j = IsStrictlyIncreasing-filter (λ u. is_listed (route_at routes u) j) (positions_below (length routes)) (range_rises 0 (length routes))
 
-pub mirrors_few : (routes : List (List ℕ)) (j : ℕ) → length routes ≤ 2 ^ 22 → All (λ v. v < 2 ^ 22) (filter (λ u. is_listed (route_at routes u) j) (positions_below (length routes)))
+pub mirrors_few : (routes : List (List ℕ)) (j : ℕ) → length routes ≤ MOST_VERTICES → All (λ v. v < MOST_VERTICES) (filter (λ u. is_listed (route_at routes u) j) (positions_below (length routes)))
 mirrors_few routes j few k d below =
     omega (arith, few, listed_inside (length routes) (λ u. is_listed (route_at routes u) j) (filter (λ u. is_listed (route_at routes u) j) (positions_below (length routes))) (λ f. refl) k d below)

@@ -1,5 +1,5 @@
 -- Updates in slots.
-use Rattle.std.proofs.Common.{◌≡◌, ℕ, zero, suc, ◌+◌, ◌<◌, ◌≤◌, ◌^◌, ◌∙◌, Bool, true, false, List, [], ◌∷◌, ◌++◌, length, get_or, set, map, take, replicate, nat_cmp, Option, None, Some, refl, sym, ap, arith, length-set, inl, inr}
+use Rattle.std.proofs.Common.{◌≡◌, ℕ, zero, suc, ◌+◌, ◌<◌, ◌≤◌, ◌∙◌, Bool, true, false, List, [], ◌∷◌, ◌++◌, length, get_or, set, map, take, replicate, nat_cmp, Option, None, Some, refl, sym, ap, arith, length-set, inl, inr}
 use Rattle.std.specs.Prelude.{◌==◌, ◌&&◌, ◌||◌, not, nat_lt, filter, if◌then◌else◌}
 use Rattle.std.specs.List.{range_with_len}
 use Rattle.std.specs.List.Sorted.{IsStrictlyIncreasing, IsPermutation, IsSorted}
@@ -8,6 +8,7 @@ use Rattle.std.proofs.lemmas.Bool.{cases_lt}
 use Rattle.std.proofs.lemmas.List.{length-map, length-replicate, get_or-set_same, get_or-set_other}
 use Rattle.std.proofs.Math.ListN.{get_or-eq_default}
 use Rattle.std.proofs.lemmas.List.Sums.{passes_at_first}
+use Rattle.px_base.specs.declared.TheConstants.{MOST_VERTICES}
 use Rattle.px_base.specs.declared.wire.Update.{Update}
 use Rattle.px_base.specs.Values.{is_listed, place_of, positions_below}
 use Rattle.px_base.proofs.Listed.{rising_apart}
@@ -129,7 +130,7 @@ mail_sorted vs ss ys size lists sorted = ap (λ ks. map (update_at vs ss) ks) (i
 
 -- ---- what an inbox keeps
 
-pub inbox_made : (vs : List ℕ) (space : ℕ) → IsStrictlyIncreasing vs → length vs ≤ 2 ^ 22 → length vs ≤ space → IsInbox vs (replicate (length vs) no_value) [] space
+pub inbox_made : (vs : List ℕ) (space : ℕ) → IsStrictlyIncreasing vs → length vs ≤ MOST_VERTICES → length vs ≤ space → IsInbox vs (replicate (length vs) no_value) [] space
 inbox_made vs space rising few room =
     let size : length (replicate (length vs) no_value) ≡ length vs = length-replicate (length vs) no_value in
     record {

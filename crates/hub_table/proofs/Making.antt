@@ -21,6 +21,11 @@ pub both_ok : {X E : Type 0} (r : Result X E) (P Q R : X → Type 0) → ((x : X
 both_ok (Ok x) P Q R f p q = f x p q
 both_ok (Err e) P Q R f p q = p
 
+-- a list without items
+pub none_left : {X : Type 0} (xs : List X) (n : ℕ) → n ≡ length xs → n ≡ 0 → xs ≡ []
+none_left [] n size none = refl
+none_left (x ∷ xs) n size none = absurd (omega (arith, size, none))
+
 -- ---- one inbox more
 
 -- the next of the lists

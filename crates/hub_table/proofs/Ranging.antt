@@ -1,9 +1,10 @@
 -- What a range of vertices is, as it is kept, and where a vertex of a rising list stands.
-use Rattle.std.proofs.Common.{◌≡◌, ℕ, ◌-◌, ◌<◌, ◌≤◌, ◌^◌, ◌∙◌, List, length, get_or, sym, ap, subst, arith}
+use Rattle.std.proofs.Common.{◌≡◌, ℕ, ◌-◌, ◌<◌, ◌≤◌, ◌∙◌, List, length, get_or, sym, ap, subst, arith}
 use Rattle.std.specs.Prelude.{IfSome, Option, Some, None}
 use Rattle.std.specs.List.{range_with_len}
 use Rattle.std.specs.List.Sorted.{IsStrictlyIncreasing}
 use Rattle.std.proofs.lemmas.List.FromFn.{length-range_with_len, get_or-range_with_len}
+use Rattle.px_base.specs.declared.TheConstants.{MOST_VERTICES}
 use Rattle.px_base.specs.Values.{place_of}
 use Rattle.hub_table.specs.declared.places.Kept.{Kept}
 use Rattle.hub_table.specs.declared.places.Kept.TheVariants.{Range}
@@ -24,7 +25,7 @@ pub record IsRange (vertices : List ℕ) (low high : ℕ) : Type 0 where
   pub is : vertices ≡ range_with_len low (high - low)
   pub size : length vertices ≡ high - low
   pub order : low ≤ high
-  pub few : high ≤ 2 ^ 22
+  pub few : high ≤ MOST_VERTICES
 
 pub range_kept : (kept : Kept) (vertices : List ℕ) (low high : ℕ) → kept ≡ Range low high → IsKept kept → vertices_in kept ≡ vertices → IsRange vertices low high
 range_kept kept vertices low high is holds view =

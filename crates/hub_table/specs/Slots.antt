@@ -1,6 +1,7 @@
 -- One inbox: a slot for each vertex of which an update may come, and a list of the slots that are filled.
-use Rattle.std.specs.Prelude.{◌≡◌, ℕ, ◌≤◌, ◌^◌, Bool, true, false, List, [], ◌∷◌, length, slice_index, slice_index_or, Option, None, Some, unwrap_or}
+use Rattle.std.specs.Prelude.{◌≡◌, ℕ, ◌≤◌, Bool, true, false, List, [], ◌∷◌, length, slice_index, slice_index_or, Option, None, Some, unwrap_or}
 use Rattle.std.specs.List.Sorted.{IsStrictlyIncreasing}
+use Rattle.px_base.specs.declared.TheConstants.{MOST_VERTICES}
 use Rattle.px_base.specs.declared.wire.Update.{Update}
 use Rattle.list_laws.specs.Sets.{IsListOf}
 
@@ -48,7 +49,7 @@ mail_of (v ∷ vertices) (slot ∷ slots) = mail_before v slot (mail_of vertices
 -- There is a slot for each vertex, and the list of those that are filled has room for all.
 pub record IsInbox (vertices : List ℕ) (slots : List (Option ℕ)) (used : List ℕ) (space : ℕ) : Type 0 where
   pub rising : IsStrictlyIncreasing vertices
-  pub few : length vertices ≤ 2 ^ 22
+  pub few : length vertices ≤ MOST_VERTICES
   pub size : length slots ≡ length vertices
   pub room : length slots ≤ space
   pub lists : IsListOf (length slots) (is_filled slots) used

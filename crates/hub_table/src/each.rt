@@ -1,7 +1,8 @@
 //! The inboxes of all workers, as a list.
-ghost use Rattle.std.specs.Prelude.{◌≡◌, ℕ, ◌==◌, ◌<◌, ◌≤◌, ◌-◌, ◌+◌, ◌^◌, ◌++◌, [], true, All, IfOk, length, replicate, slice_index_or, slice_set, vec_len, vec_capacity};
+ghost use Rattle.std.specs.Prelude.{◌≡◌, ℕ, ◌==◌, ◌<◌, ◌≤◌, ◌-◌, ◌+◌, ◌++◌, [], true, All, IfOk, length, replicate, slice_index_or, slice_set, vec_len, vec_capacity};
 ghost use Rattle.std.specs.List.{list_all, range_with_len};
 ghost use Rattle.std.specs.List.Sorted.{IsStrictlyIncreasing};
+ghost use Rattle.px_base.specs.declared.TheConstants.{MOST_VERTICES};
 ghost use Rattle.px_base.specs.Values.{is_listed};
 ghost use Rattle.px_base.specs.Parts.{IsWorkerCuts, low_of, high_of, part_count};
 ghost use Rattle.partitioner.specs.Cuts.{vertex_count};
@@ -18,7 +19,7 @@ use std::alloc::Global;
 /// An empty inbox for each list of vertices. Errors: want of memory.
 pub fn inboxes_for(alloc: Global, lists: Vec<Vertices>) -> Result<Vec<Inbox>, Memory>
     requires rising { (j : ℕ) → j < length lists.items → IsStrictlyIncreasing (slice_index_or lists.items j []) }
-    requires few { (j : ℕ) → j < length lists.items → All (λ v. v < 2 ^ 22) (slice_index_or lists.items j []) }
+    requires few { (j : ℕ) → j < length lists.items → All (λ v. v < MOST_VERTICES) (slice_index_or lists.items j []) }
     ensures tables { IfOk result (λ inboxes. tables inboxes.items ≡ lists.items) }
     ensures mails { IfOk result (λ inboxes. mails inboxes.items ≡ replicate (length lists.items) []) }
 {
@@ -34,7 +35,7 @@ pub fn inboxes_for(alloc: Global, lists: Vec<Vertices>) -> Result<Vec<Inbox>, Me
 #[tactic(auto, using(partitioner::proofs::Owned::low_below_high))]
 pub fn master_inboxes(alloc: Global, cuts: &Cuts) -> Result<Vec<Inbox>, Memory>
     requires cuts { IsWorkerCuts (vertex_count cuts.now.ends) cuts.now.ends }
-    requires few { vertex_count cuts.now.ends ≤ 2 ^ 22 }
+    requires few { vertex_count cuts.now.ends ≤ MOST_VERTICES }
     ensures count { IfOk result (λ inboxes. length inboxes.items ≡ part_count cuts.now.ends) }
     ensures tables { IfOk result (λ inboxes. (j : ℕ) → j < part_count cuts.now.ends →
         slice_index_or (tables inboxes.items) j [] ≡ range_with_len (low_of cuts.now.ends j) (high_of cuts.now.ends j - low_of cuts.now.ends j)) }

@@ -1,5 +1,6 @@
 //! The updates that wait for each worker.
-ghost use Rattle.std.specs.Prelude.{◌≡◌, ◌≤◌, ◌^◌, [], IfOk, length, replicate};
+ghost use Rattle.std.specs.Prelude.{◌≡◌, ◌≤◌, [], IfOk, length, replicate};
+ghost use Rattle.px_base.specs.declared.TheConstants.{MOST_VERTICES};
 ghost use Rattle.px_base.specs.Parts.{IsWorkerCuts, part_count};
 ghost use Rattle.partitioner.specs.Cuts.{vertex_count};
 ghost use Rattle.list_laws.specs.Routes.{AreRoutes};
@@ -53,7 +54,7 @@ fn empty_inboxes(
     counting: bool,
 ) -> Result<Vec<Inbox>, Memory>
     requires cuts { IsWorkerCuts (vertex_count cuts.now.ends) cuts.now.ends }
-    requires few { vertex_count cuts.now.ends ≤ 2 ^ 22 }
+    requires few { vertex_count cuts.now.ends ≤ MOST_VERTICES }
     requires routes { AreRoutes (part_count cuts.now.ends) routes.now.to }
     requires one_each { length routes.now.to ≡ vertex_count cuts.now.ends }
     ensures tables { IfOk result (λ inboxes. AreTables cuts.now.ends routes.now.to counting (tables inboxes.items)) }
@@ -68,7 +69,8 @@ fn empty_inboxes(
 }
 
 impl Inboxes {
-    ghost use Rattle.std.specs.Prelude.{◌≡◌, ◌<◌, ◌≤◌, ◌+◌, ◌++◌, ◌^◌, true, false, IfOk, length, vec_len, vec_capacity};
+    ghost use Rattle.px_base.specs.declared.TheConstants.{MOST_VERTICES};
+    ghost use Rattle.std.specs.Prelude.{◌≡◌, ◌<◌, ◌≤◌, ◌+◌, ◌++◌, true, false, IfOk, length, vec_len, vec_capacity};
     ghost use Rattle.px_base.specs.Values.{IsValue};
     ghost use Rattle.px_base.specs.Parts.{IsWorkerCuts, part_count};
     ghost use Rattle.partitioner.specs.Cuts.{vertex_count};
@@ -86,7 +88,7 @@ impl Inboxes {
         counting: bool,
     ) -> Result<Inboxes, Memory>
         requires cuts { IsWorkerCuts (vertex_count cuts.now.ends) cuts.now.ends }
-        requires few { vertex_count cuts.now.ends ≤ 2 ^ 22 }
+        requires few { vertex_count cuts.now.ends ≤ MOST_VERTICES }
         requires routes { AreRoutes (part_count cuts.now.ends) routes.now.to }
         requires one_each { length routes.now.to ≡ vertex_count cuts.now.ends }
         ensures { IfOk result (λ t. t ≡ opening_inboxes cuts.now.ends routes.now.to counting) }

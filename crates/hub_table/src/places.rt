@@ -15,12 +15,16 @@ use std::marker::Model;
 pub enum Kept {
     /// Any vertices, rising, with a table that says where each stands.
     Listed {
+        /// The vertices, rising.
         vertices: Vec<Pos>,
+        /// Where each of them stands in the list.
         table: PlaceTable,
     },
     /// All from `low` on, and before `high`.
     Range {
+        /// The first vertex.
         low: Pos,
+        /// The vertex after the last one.
         high: Pos,
     },
 }
@@ -43,7 +47,8 @@ impl Model for Places {
 }
 
 impl Places {
-    ghost use Rattle.std.specs.Prelude.{◌≡◌, ◌<◌, ◌≤◌, ◌-◌, ◌^◌, false, All, IfOk, IfSome, IfNone, length, slice_index};
+    ghost use Rattle.px_base.specs.declared.TheConstants.{MOST_VERTICES};
+    ghost use Rattle.std.specs.Prelude.{◌≡◌, ◌<◌, ◌≤◌, ◌-◌, false, All, IfOk, IfSome, IfNone, length, slice_index};
     ghost use Rattle.std.specs.List.{range_with_len};
     ghost use Rattle.std.specs.List.Sorted.{IsStrictlyIncreasing};
     ghost use Rattle.px_base.specs.Values.{is_listed, place_of};
@@ -51,7 +56,7 @@ impl Places {
     /// These vertices. Errors: want of memory.
     pub fn listed(alloc: Global, vertices: Vec<Pos>) -> Result<Places, Memory>
         requires rising { IsStrictlyIncreasing vertices.items }
-        requires below { All (λ v. v < 2 ^ 22) vertices.items }
+        requires below { All (λ v. v < MOST_VERTICES) vertices.items }
         ensures { IfOk result (λ places. places ≡ vertices.items) }
     {
         let table = PlaceTable::new(alloc, &vertices)?;
@@ -63,7 +68,7 @@ impl Places {
     /// All vertices from `low` on, and before `high`.
     pub fn range(low: Pos, high: Pos) -> Places
         requires order { low ≤ high }
-        requires below { high ≤ 2 ^ 22 }
+        requires below { high ≤ MOST_VERTICES }
         ensures { result ≡ range_with_len low (high - low) }
     {
         Places {
@@ -75,7 +80,7 @@ impl Places {
     pub fn len(&self) -> usize
         ensures count { result ≡ length self.now }
         ensures rising { IsStrictlyIncreasing self.now }
-        ensures few { length self.now ≤ 2 ^ 22 }
+        ensures few { length self.now ≤ MOST_VERTICES }
     {
         match &self.kept {
             Kept::Listed { vertices, .. } => vertices.len(),

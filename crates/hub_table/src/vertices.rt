@@ -1,6 +1,7 @@
 //! Which vertices each worker mirrors, from their routes.
-ghost use Rattle.std.specs.Prelude.{◌≡◌, ℕ, ◌<◌, ◌≤◌, ◌^◌, ◌++◌, ◌∷◌, [], All, IfOk, OnOk, filter, length, slice_index_or, if◌then◌else◌};
+ghost use Rattle.std.specs.Prelude.{◌≡◌, ℕ, ◌<◌, ◌≤◌, ◌++◌, ◌∷◌, [], All, IfOk, OnOk, filter, length, slice_index_or, if◌then◌else◌};
 ghost use Rattle.std.specs.List.Sorted.{IsStrictlyIncreasing};
+ghost use Rattle.px_base.specs.declared.TheConstants.{MOST_VERTICES};
 ghost use Rattle.px_base.specs.Values.{is_listed, positions_below};
 ghost use Rattle.hub_terms.specs.Inboxes.{route_at};
 ghost use Rattle.list_laws.specs.Routes.{AreRoutes};
@@ -83,7 +84,7 @@ pub fn mirror_lists(
     count: usize,
 ) -> Result<Vec<Vertices>, Memory>
     requires routes { AreRoutes count routes.now }
-    requires few { length routes.now ≤ 2 ^ 22 }
+    requires few { length routes.now ≤ MOST_VERTICES }
     ensures count { IfOk result (λ lists. length lists.items ≡ count) }
     ensures lists { IfOk result (λ lists. (j : ℕ) → j < count →
         slice_index_or lists.items j [] ≡ filter (λ v. is_listed (route_at routes.now v) j) (positions_below (length routes.now))) }

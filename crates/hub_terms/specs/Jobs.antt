@@ -1,6 +1,7 @@
 -- What is to be computed, and what a job needs before it can run.
 use Rattle.std.specs.Prelude.{◌≡◌, ℕ, ◌≤◌, ◌^◌, List, length, All, IsOk, ⊤, MatchResult}
 use Rattle.std.specs.List.Sorted.{IsSortedBy}
+use Rattle.px_base.specs.declared.TheConstants.{MOST_READS, MOST_VERTICES}
 use Rattle.px_base.specs.declared.graph.Read.{Read}
 use Rattle.px_base.specs.declared.graph.ReadGraph.{ReadGraph}
 use Rattle.px_base.specs.declared.program.CoreProgram.{CoreProgram}
@@ -50,8 +51,8 @@ pub record IsSound (job : Job) : Type 0 where
   pub class : IsOk (class_of job.core.program)
   pub numbers : IsRowProgram job.core.program
   pub rows : RowsFit (length job.rows) job.rows
-  pub vertices : length job.rows ≤ 2 ^ 22
-  pub reads : read_count job.rows ≤ 2 ^ 25
+  pub vertices : length job.rows ≤ MOST_VERTICES
+  pub reads : read_count job.rows ≤ MOST_READS
   pub ordered : All (λ row. IsSortedBy is_lower_read row) job.rows
   pub starts : IsValueList (length job.rows) job.starts
   pub suit : MatchResult (class_of job.core.program) (λ class. RowsSuit class job.rows) (λ refused. ⊥)

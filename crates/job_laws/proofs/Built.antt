@@ -1,5 +1,5 @@
 -- What is built for an accepted program is a sound job: the rows suit its class.
-use Rattle.std.proofs.Common.{◌≡◌, ℕ, ◌+◌, ◌-◌, ◌<◌, ◌≤◌, ◌^◌, ◌∙◌, Bool, true, false, not, List, [], refl, sym, ap, subst, arith, inl, inr}
+use Rattle.std.proofs.Common.{◌≡◌, ℕ, ◌+◌, ◌-◌, ◌<◌, ◌≤◌, ◌∙◌, Bool, true, false, not, List, [], refl, sym, ap, subst, arith, inl, inr}
 use Rattle.std.specs.Prelude.{All, ◌==◌, ◌&&◌, filter, sum_by, Result, Ok, Err, IsOk, MatchResult}
 use Rattle.std.specs.List.{list_any}
 use Rattle.std.specs.List.Sorted.{IsSortedBy}
@@ -8,6 +8,7 @@ use Rattle.std.proofs.lemmas.Bool.Decides.{nat_tests}
 use Rattle.std.proofs.lemmas.List.{get_or_past, get_or_default}
 use Rattle.std.proofs.lemmas.List.Folds.{fold-map}
 use Rattle.std.proofs.lemmas.List.Sorted.{sum_by-IsPermutation}
+use Rattle.px_base.specs.declared.TheConstants.{MOST_READS, MOST_VERTICES}
 use Rattle.px_base.specs.declared.graph.Edge.{Edge}
 use Rattle.px_base.specs.declared.graph.Read.{Read}
 use Rattle.px_base.specs.declared.graph.ReadGraph.{ReadGraph}
@@ -112,7 +113,7 @@ suits p graph built (Ok GloballyCorrecting) class accepted =
     symmetric_by p.form p.reads graph.n built.edges graph parts.0 parts.1 built.graph
 suits p graph built (Err refused) class accepted = absurd (cc accepted)
 
-pub built_is_sound : (p : Program) (graph : ReadGraph) (starts : List ℕ) → IsOk (class_of p) → IsRowProgram p → IsBuilt p graph → RowsFit graph.n graph.rows → graph.n ≤ 2 ^ 22 → read_count graph.rows ≤ 2 ^ 25 →
+pub built_is_sound : (p : Program) (graph : ReadGraph) (starts : List ℕ) → IsOk (class_of p) → IsRowProgram p → IsBuilt p graph → RowsFit graph.n graph.rows → graph.n ≤ MOST_VERTICES → read_count graph.rows ≤ MOST_READS →
     IsValueList graph.n starts → IsSound (job_of graph (core_form p) starts)
 built_is_sound p graph starts accepted numbers built fits small few values = record {
   core = refl;

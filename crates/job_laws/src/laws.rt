@@ -1,5 +1,6 @@
 //! The laws.
-ghost use Rattle.std.specs.Prelude.{◌≡◌, ◌≤◌, ◌^◌, ℕ, IsOk, List};
+ghost use Rattle.std.specs.Prelude.{◌≡◌, ◌≤◌, ℕ, IsOk, List};
+ghost use Rattle.px_base.specs.declared.TheConstants.{MOST_READS, MOST_VERTICES};
 ghost use Rattle.px_base.specs.declared.graph.ReadGraph.{ReadGraph as ReadGraphData};
 ghost use Rattle.px_base.specs.declared.program.Program.{Program as ProgramData};
 ghost use Rattle.px_base.specs.Classes.{class_of};
@@ -21,7 +22,7 @@ pub fn every_sound_job_has_one_answer()
 pub fn built_jobs_are_sound()
     ensures { (p : ProgramData) (graph : ReadGraphData) (starts : List ℕ) →
         IsOk (class_of p) → IsRowProgram p →
-        IsBuilt p graph → RowsFit graph.n graph.rows → graph.n ≤ 2 ^ 22 → read_count graph.rows ≤ 2 ^ 25 →
+        IsBuilt p graph → RowsFit graph.n graph.rows → graph.n ≤ MOST_VERTICES → read_count graph.rows ≤ MOST_READS →
         IsValueList graph.n starts →
         IsSound (job_of graph (core_form p) starts) }
 {}

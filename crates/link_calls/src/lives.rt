@@ -11,8 +11,8 @@ use crate::orders::{report_for, step_for};
 use link_trait::{Link, LinkFault, Spawner, StartFault};
 use memory_nursery::{MemLink, MemSpawner};
 use px_base::{
-    Along, Answer, CoreProgram, Fold, Form, Items, Own, Part, Pos, Program, Read, Reads, Start,
-    TOP, Value, part_fits,
+    Along, Answer, CoreProgram, Fold, Form, Items, Own, Part, Pos, Program, Reads, Rows,
+    RowsBuilder, Start, TOP, Value, part_fits,
 };
 use std::alloc::Global;
 use std::sync::Wait;
@@ -57,16 +57,14 @@ pub fn program() -> CoreProgram
 }
 
 /// The rows of two vertices, of which the second reads the first.
-fn rows(alloc: Global, low: Pos) -> Result<Items<Items<Read>>, Fail>
+fn rows(alloc: Global, low: Pos) -> Result<Rows, Fail>
     ensures { IfOk result (λ rows. rows ≡ small_rows low) }
 {
-    let read = Read {
-        source: low,
-        weight: 1,
-    };
-    let first: Items<Read> = Items::from_vec(Vec::new(alloc));
-    let second = Items::from_vec(vec![in alloc; read]?);
-    Ok(Items::from_vec(vec![in alloc; first, second]?))
+    let mut rows = RowsBuilder::new(alloc, 2, 1)?;
+    rows.end_row()?;
+    rows.push(low, 1)?;
+    rows.end_row()?;
+    Ok(rows.finish())
 }
 
 /// A part of two vertices for a worker, of which the second reads the first. Nobody else reads them.

@@ -1,5 +1,5 @@
 //! Orders as a hub gives them: the first Step of a worker, and a Report once all is quiet.
-ghost use Rattle.std.specs.Prelude.{◌≡◌, true, [], All, IfOk, length, ◌≤◌, ◌^◌};
+ghost use Rattle.std.specs.Prelude.{◌≡◌, true, [], All, IfOk, length, ◌≤◌};
 ghost use Rattle.px_base.specs.Graphs.{RowsFit};
 ghost use Rattle.px_base.specs.Parts.{IsWorkerCuts, part_count};
 ghost use Rattle.list_laws.specs.Routes.{AreRoutes};
@@ -8,7 +8,7 @@ ghost use Rattle.hub_terms.specs.Systems.{AnswersValues};
 
 use hub_terms::Limits;
 use partitioner::{Cuts, RouteTable, cut, routes};
-use px_base::{Answer, Items, Order, ReadGraph, Update};
+use px_base::{Answer, Items, Order, ReadGraph, Rows, Update};
 use recovery::{Given, Hub, Turn};
 use std::alloc::Global;
 use std::test::Fail;
@@ -20,7 +20,7 @@ fn no_graph(alloc: Global) -> ReadGraph
 {
     ReadGraph {
         n: 0,
-        rows: Items::from_vec(Vec::new(alloc)),
+        rows: Rows::new(alloc),
         degrees: Items::from_vec(Vec::new(alloc)),
     }
 }

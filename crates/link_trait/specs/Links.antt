@@ -1,6 +1,7 @@
 -- A link as contracts see it, and what a call of it leaves.
-use Rattle.std.specs.Prelude.{◌≡◌, ℕ, ◌≤◌, ◌^◌, Bool, true, false, All, Option, Some, is_some, Result, Ok, Err, IsOk, ⊤, MatchOption}
+use Rattle.std.specs.Prelude.{◌≡◌, ℕ, ◌≤◌, Bool, true, false, All, Option, Some, is_some, Result, Ok, Err, IsOk, ⊤, MatchOption}
 use Rattle.std.specs.List.Sorted.{IsSortedBy}
+use Rattle.px_base.specs.declared.TheConstants.{MOST_READS}
 use Rattle.px_base.specs.declared.graph.Part.{Part}
 use Rattle.px_base.specs.declared.program.CoreProgram.{CoreProgram}
 use Rattle.px_base.specs.declared.wire.Answer.{Answer}
@@ -89,7 +90,7 @@ pub record CanStart (part : Part) (core : CoreProgram) (chunks : ℕ) : Type 0 w
   pub fits : PartFits part
   pub weights : HasWeights part.rows
   pub ordered : All (λ row. IsSortedBy is_lower_read row) part.rows
-  pub reads : read_count part.rows ≤ 2 ^ 25
+  pub reads : read_count part.rows ≤ MOST_READS
   pub in_core_form : core ≡ core_form core.program
   pub accepted : IsOk (class_of core.program)
   pub numbers : IsRowProgram core.program

@@ -1,7 +1,6 @@
 //! Links to worlds in memory. A test can say beforehand which link ends at which call, and which start is refused.
 #![tactic(auto)]
 
-mod copies;
 mod counts;
 mod kept;
 mod mem_link;

@@ -61,7 +61,7 @@ impl Model for RetiredLink {
 }
 
 impl MemLink {
-    ghost use Rattle.std.specs.Prelude.{◌≡◌, ◌≤◌, ◌^◌, ◌∷◌, [], true, length, Some, None, IfOk};
+    ghost use Rattle.std.specs.Prelude.{◌≡◌, ◌≤◌, ◌∷◌, [], true, length, Some, None, IfOk};
     ghost use Rattle.link_trait.specs.Spawners.{kept_of};
     ghost use Rattle.memory_nursery.specs.Keeping.{KeepsLink};
     ghost use Rattle.memory_nursery.specs.Scripts.{moments_of, losses_of};

@@ -3,7 +3,6 @@ ghost use Rattle.std.specs.Prelude.{◌≡◌, ◌<◌, ◌≤◌, IfOk, OnOk, v
 ghost use Rattle.px_base.specs.Worlds.{new_world};
 ghost use Rattle.link_trait.specs.Links.{CanStart};
 
-use crate::copies::copied_part;
 use crate::counts::WorkerCounts;
 use crate::kept::{KeptMark, plan_of};
 use crate::mem_link::{MemLink, RetiredLink};
@@ -63,7 +62,7 @@ fn new_world(alloc: Global, part: &Part, core: &CoreProgram, chunks: u32) -> Res
     requires { CanStart part.now core.now chunks }
     ensures { IfOk result (λ world. world ≡ new_world part.now core.now) }
 {
-    let own = copied_part(alloc, part)?;
+    let own = part.try_clone()?;
     World::new(alloc, own, *core, chunks)
 }
 

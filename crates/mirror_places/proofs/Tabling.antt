@@ -1,11 +1,12 @@
 -- Positions of a rising list by blocks of 16.
-use Rattle.std.proofs.Common.{◌≡◌, ℕ, zero, suc, ◌+◌, ◌*◌, ◌/◌, ◌-◌, ◌<◌, ◌≤◌, ◌^◌, ◌≢◌, Bool, true, false, List, [], ◌∷◌, ◌++◌, length, length-append, get_or, max, refl, ap, inl, inr, arith, eq-eqb}
+use Rattle.std.proofs.Common.{◌≡◌, ℕ, zero, suc, ◌+◌, ◌*◌, ◌/◌, ◌-◌, ◌<◌, ◌≤◌, ◌≢◌, Bool, true, false, List, [], ◌∷◌, ◌++◌, length, length-append, get_or, max, refl, ap, inl, inr, arith, eq-eqb}
 use Rattle.std.specs.Prelude.{◌==◌, if◌then◌else◌, All, slice_index, Option, Some, None, IfSome, IfNone}
 use Rattle.std.specs.List.Sorted.{IsStrictlyIncreasing}
 use Rattle.std.proofs.lemmas.Bool.{cases_lt}
 use Rattle.std.proofs.Math.ListN.{get_or-append}
 use Rattle.std.proofs.Math.Seq.{get_or-append_seam}
 use Rattle.std.proofs.lemmas.List.Folds.{list_any_at}
+use Rattle.px_base.specs.declared.TheConstants.{MOST_VERTICES}
 use Rattle.px_base.specs.Values.{is_listed, place_of}
 use Rattle.px_base.proofs.Listed.{place_is, not_equal, rising_apart, rises_from_zero}
 use Rattle.mirror_places.specs.Tables.{CountsBelow, IsTableOf, table_size}
@@ -21,10 +22,10 @@ pub record IsBegun (positions starts : List ℕ) (k : ℕ) : Type 0 where
   pub few : (j : ℕ) → k ≡ j + 1 → 16 * length starts ≤ slice_index positions j + 16
 
 -- a rising list of positions below 2 ^ 22 has no more entries than that
-pub few : (positions : List ℕ) → IsStrictlyIncreasing positions → All (λ p. p < 2 ^ 22) positions → length positions ≤ 2 ^ 22
+pub few : (positions : List ℕ) → IsStrictlyIncreasing positions → All (λ p. p < MOST_VERTICES) positions → length positions ≤ MOST_VERTICES
 few positions rising below = by_count (length positions) refl
   where
-    by_count : (n : ℕ) → length positions ≡ n → n ≤ 2 ^ 22
+    by_count : (n : ℕ) → length positions ≡ n → n ≤ MOST_VERTICES
     by_count zero is = omega arith
     by_count (suc n) is =
         let last : n < length positions = omega arith in

@@ -1,5 +1,7 @@
-ghost use Rattle.std.specs.Prelude.{◌≡◌, ◌≢◌, ◌+◌, ◌*◌, ◌^◌, ◌<◌, ◌≤◌, ℕ, max, IfSome, IfNone, OnOk, length, slice_index};
+//! Blocks of 16 positions, each of which is looked through in one line of the cache.
+ghost use Rattle.std.specs.Prelude.{◌≡◌, ◌≢◌, ◌+◌, ◌*◌, ◌<◌, ◌≤◌, ℕ, max, IfSome, IfNone, OnOk, length, slice_index};
 ghost use Rattle.mirror_places.specs.Tables.{table_size};
+ghost use Rattle.px_base.specs.declared.TheConstants.{MOST_VERTICES};
 
 use px_base::{Memory, Pos};
 
@@ -26,7 +28,7 @@ pub fn table_size(positions: &[Pos]) -> usize
 
 /// Gives each block up to this one a start, if it has none.
 pub fn start_blocks(starts: &mut Vec<u32>, block: usize, at: u32) -> Result<(), Memory>
-    requires { block < 2 ^ 22 }
+    requires { block < MOST_VERTICES }
     ensures count { OnOk result (length starts.new.items ≡ max (length starts.old.items) (block + 1)) }
     ensures kept { OnOk result ((b : ℕ) → b < length starts.old.items → slice_index starts.new.items b ≡ slice_index starts.old.items b) }
     ensures added { OnOk result ((b : ℕ) → length starts.old.items ≤ b → b < length starts.new.items → slice_index starts.new.items b ≡ at) }

@@ -1,3 +1,4 @@
+//! Where a position stands in a rising list, found in constant time.
 use crate::blocks::{block_of, find_between, start_blocks, table_size};
 use px_base::{Memory, Pos};
 use std::alloc::Global;
@@ -19,7 +20,8 @@ impl Model for PlaceTable {
 }
 
 impl PlaceTable {
-    ghost use Rattle.std.specs.Prelude.{◌≡◌, ◌<◌, ◌^◌, true, false, All, IfOk, IfSome, IfNone, length};
+    ghost use Rattle.px_base.specs.declared.TheConstants.{MOST_VERTICES};
+    ghost use Rattle.std.specs.Prelude.{◌≡◌, ◌<◌, true, false, All, IfOk, IfSome, IfNone, length};
     ghost use Rattle.std.specs.List.Sorted.{IsStrictlyIncreasing};
     ghost use Rattle.px_base.specs.Values.{is_listed, place_of};
     ghost use Rattle.mirror_places.specs.Tables.{IsTableOf, table_size};
@@ -27,7 +29,7 @@ impl PlaceTable {
     /// The table of a rising list, made in one pass. Errors: want of memory.
     pub fn new(alloc: Global, positions: &[Pos]) -> Result<PlaceTable, Memory>
         requires rising { IsStrictlyIncreasing positions.now }
-        requires below { All (λ p. p < 2 ^ 22) positions.now }
+        requires below { All (λ p. p < MOST_VERTICES) positions.now }
         ensures table { IfOk result (λ table. IsTableOf positions.now table) }
         ensures size { IfOk result (λ table. length table ≡ table_size positions.now) }
     {

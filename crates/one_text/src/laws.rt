@@ -1,3 +1,4 @@
+//! Each input has one text, and each ending too.
 ghost use Rattle.std.specs.Prelude.{◌≡◌, ◌≢◌, ◌≤◌, ◌*◌, ℕ, List, Ok, length};
 ghost use Rattle.px_base.specs.declared.graph.Edge.{Edge as EdgeData};
 ghost use Rattle.px_base.specs.declared.graph.EdgeList.{EdgeList as EdgeListData};

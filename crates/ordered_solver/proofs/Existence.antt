@@ -1,8 +1,9 @@
 -- The fixed point: renewing all values at once settles one place of the order more each time.
-use Rattle.std.proofs.Common.{◌≡◌, ℕ, zero, suc, ◌+◌, ◌<◌, ◌≤◌, ◌^◌, max, List, length, sym, ◌∙◌, arith, inl, inr}
+use Rattle.std.proofs.Common.{◌≡◌, ℕ, zero, suc, ◌+◌, ◌<◌, ◌≤◌, max, List, length, sym, ◌∙◌, arith, inl, inr}
 use Rattle.std.specs.Prelude.{All, slice_index}
 use Rattle.std.proofs.lemmas.Bool.{cases_lt}
 use Rattle.std.proofs.lemmas.List.Elements.{All-weaker}
+use Rattle.px_base.specs.declared.TheConstants.{MOST_READS}
 use Rattle.px_base.specs.declared.graph.Read.{Read}
 use Rattle.px_base.specs.declared.program.Program.{Program}
 use Rattle.px_base.specs.Values.{IsValue, IsValueList, by_position}
@@ -24,7 +25,7 @@ renewals p rows starts (suc k) = renewed p rows starts (renewals p rows starts k
 renewed_at : (p : Program) (rows : List (List Read)) (starts x : List ℕ) (v : ℕ) → v < length rows → slice_index (renewed p rows starts x) v ≡ pull p rows starts x v
 renewed_at p rows starts x v inside = at_position (length rows) (pull p rows starts x) v 0 inside
 
-renewed_values : (p : Program) (rows : List (List Read)) (starts x : List ℕ) → HasWeights rows → read_count rows ≤ 2 ^ 25 → All IsValue starts → All IsValue x →
+renewed_values : (p : Program) (rows : List (List Read)) (starts x : List ℕ) → HasWeights rows → read_count rows ≤ MOST_READS → All IsValue starts → All IsValue x →
     IsValueList (length rows) (renewed p rows starts x)
 renewed_values p rows starts x weights few first values = record {
   one_each = length_by_position (length rows) (pull p rows starts x);
@@ -33,7 +34,7 @@ renewed_values p rows starts x weights few first values = record {
       rw (at_position (length rows) (pull p rows starts x) v d inside) (pull_in_range p rows starts x v weights few first values);
 }
 
-renewals_are_values : (p : Program) (rows : List (List Read)) (starts : List ℕ) → HasWeights rows → read_count rows ≤ 2 ^ 25 → IsValueList (length rows) starts →
+renewals_are_values : (p : Program) (rows : List (List Read)) (starts : List ℕ) → HasWeights rows → read_count rows ≤ MOST_READS → IsValueList (length rows) starts →
     (k : ℕ) → IsValueList (length rows) (renewals p rows starts k)
 renewals_are_values p rows starts weights few first zero = first
 renewals_are_values p rows starts weights few first (suc k) =
@@ -62,7 +63,7 @@ above_each place (suc n) v inside = elim (cases_lt v n) [
   | inr last ↦ (let same : v ≡ n = omega arith in rw same (omega arith))
 ]
 
-pub one_exists : (p : Program) (rows : List (List Read)) (starts : List ℕ) → IsOrdered rows → RowsFit (length rows) rows → IsValueList (length rows) starts → read_count rows ≤ 2 ^ 25 →
+pub one_exists : (p : Program) (rows : List (List Read)) (starts : List ℕ) → IsOrdered rows → RowsFit (length rows) rows → IsValueList (length rows) starts → read_count rows ≤ MOST_READS →
     (x : List ℕ) × IsFixedPoint p rows starts x
 one_exists p rows starts o fit first few =
     let last : ℕ = above o.place (length rows) in (

@@ -1,5 +1,5 @@
 -- What a vertex gathers depends on the values of its sources alone, and is a value.
-use Rattle.std.proofs.Common.{◌≡◌, ℕ, ◌<◌, ◌≤◌, ◌^◌, ◌+◌, max, false, List, [], ◌∷◌, length, map, get_or, take, refl, ap, subst, arith, inl, inr}
+use Rattle.std.proofs.Common.{◌≡◌, ℕ, ◌<◌, ◌≤◌, ◌+◌, max, false, List, [], ◌∷◌, length, map, get_or, take, refl, ap, subst, arith, inl, inr}
 use Rattle.std.specs.Prelude.{All, slice_index}
 use Rattle.std.proofs.lemmas.Bool.{cases_lt}
 use Rattle.std.specs.Ordering.{nat_cmp, ord_max}
@@ -7,6 +7,7 @@ use Rattle.std.proofs.lemmas.Bool.Decides.{nat_tests}
 use Rattle.std.proofs.lemmas.List.{get_or_past, length-map, take_all}
 use Rattle.std.proofs.lemmas.List.Elements.{All-head, All-tail, All-get_or, All-nil, All-map, All-more, All-weaker}
 use Rattle.std.proofs.lemmas.List.Sums.{get_or-le-sum_by}
+use Rattle.px_base.specs.declared.TheConstants.{MOST_READS}
 use Rattle.px_base.specs.declared.graph.Read.{Read}
 use Rattle.px_base.specs.declared.program.Fold.{Fold}
 use Rattle.px_base.specs.declared.program.Fold.TheVariants.{Least, Greatest, Mex, Count}
@@ -85,7 +86,7 @@ gathered_in_range Mex start items first values few = mex_in_range items few
 gathered_in_range (Count k) start items first values few = first
 
 pub pull_in_range : (p : Program) (rows : List (List Read)) (starts x : List ℕ) (v : ℕ) →
-    HasWeights rows → read_count rows ≤ 2 ^ 25 → All IsValue starts → All IsValue x → IsValue (pull p rows starts x v)
+    HasWeights rows → read_count rows ≤ MOST_READS → All IsValue starts → All IsValue x → IsValue (pull p rows starts x v)
 pull_in_range p rows starts x v weights few first values =
     gathered_in_range p.fold (slice_index starts v) (edge_values p.along x (row_at rows v)) (value_at starts first v)
     (edges_in_range p x (row_at rows v) values (row_holds (λ r. IsWeight r.weight) rows weights v))

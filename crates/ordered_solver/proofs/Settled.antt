@@ -44,11 +44,11 @@ values_stay n values u value are is = record {
 }
 
 -- what the pass writes is the pull
-pub is_pull : (p : Program) (rows : List (List Read)) (starts values lent : List ℕ) (v value : ℕ) (row item : List Read) → v < length rows →
-    value ≡ gather p.fold (slice_index starts v) (edge_values p.along lent row) → lent ≡ values → row ≡ item → item ≡ get_or rows v item → value ≡ pull p rows starts values v
-is_pull p rows starts values lent v value row item inside is same shown here =
+pub is_pull : (p : Program) (rows : List (List Read)) (starts values lent : List ℕ) (v value : ℕ) (row : List Read) →
+    value ≡ gather p.fold (slice_index starts v) (edge_values p.along lent row) → lent ≡ values → row ≡ row_at rows v → value ≡ pull p rows starts values v
+is_pull p rows starts values lent v value row is same here =
     is ∙ ap (λ x. gather p.fold (slice_index starts v) (edge_values p.along x row)) same
-    ∙ ap (λ (r : List Read). gather p.fold (slice_index starts v) (edge_values p.along values r)) (shown ∙ here ∙ get_or_default rows v item [] inside)
+    ∙ ap (λ (r : List Read). gather p.fold (slice_index starts v) (edge_values p.along values r)) here
 
 pub all_settled : (p : Program) (rows : List (List Read)) (starts order values : List ℕ) (i : ℕ) → IsReadOrder (length rows) rows order → length order ≤ i →
     IsValueList (length rows) values → AreSettled p rows starts order i values → IsFixedPoint p rows starts values

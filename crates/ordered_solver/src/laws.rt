@@ -1,4 +1,6 @@
-ghost use Rattle.std.specs.Prelude.{◌≡◌, ◌<◌, ◌≤◌, ◌^◌, ℕ, All, List, Ok, length};
+//! Where reads go by an order, the pull has one fixed point.
+ghost use Rattle.std.specs.Prelude.{◌≡◌, ◌<◌, ◌≤◌, ℕ, All, List, Ok, length};
+ghost use Rattle.px_base.specs.declared.TheConstants.{MOST_READS};
 ghost use Rattle.px_base.specs.declared.graph.Edge.{Edge as EdgeData};
 ghost use Rattle.px_base.specs.declared.graph.Read.{Read as ReadData};
 ghost use Rattle.px_base.specs.declared.graph.ReadGraph.{ReadGraph as ReadGraphData};
@@ -18,7 +20,7 @@ ghost use Rattle.ordered_solver.specs.Orders.{AreEarlier};
 /// graph of earlier reads by either rank is such.
 pub fn fixed_point_of_earlier_reads()
     ensures exists { (p : ProgramData) (rows : List (List ReadData)) (starts : List ℕ) →
-        class_of p ≡ Ok SelfStabilising → IsOrdered rows → RowsFit (length rows) rows → IsValueList (length rows) starts → read_count rows ≤ 2 ^ 25 →
+        class_of p ≡ Ok SelfStabilising → IsOrdered rows → RowsFit (length rows) rows → IsValueList (length rows) starts → read_count rows ≤ MOST_READS →
         (x : List ℕ) × IsFixedPoint p rows starts x }
     ensures only { (p : ProgramData) (rows : List (List ReadData)) (starts x y : List ℕ) →
         IsOrdered rows → IsFixedPoint p rows starts x → IsFixedPoint p rows starts y → x ≡ y }

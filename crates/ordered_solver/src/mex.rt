@@ -5,10 +5,10 @@ ghost use Rattle.px_base.specs.Values.{IsValue, IsWeight, is_listed};
 ghost use Rattle.px_base.specs.Rules.{edge_values, mex};
 
 use crate::pulls::read_value;
-use px_base::{Along, Read, Value};
+use px_base::{Along, Row, Value};
 
 /// Stamps the edge values of the row that are below the row's length.
-fn stamp_row(along: Along, values: &[Value], row: &[Read], stamp: u32, stamps: &mut Vec<u32>)
+fn stamp_row(along: Along, values: &[Value], row: &Row<'_>, stamp: u32, stamps: &mut Vec<u32>)
     requires sources { All (λ r. r.source < length values.now) row.now }
     requires weights { All (λ r. IsWeight r.weight) row.now }
     requires values { All IsValue values.now }
@@ -18,8 +18,8 @@ fn stamp_row(along: Along, values: &[Value], row: &[Read], stamp: u32, stamps: &
     ensures old { All (λ s. s ≤ stamp) stamps.new.items }
     ensures room { vec_len stamps.new ≡ vec_len stamps.old }
 {
-    for read in row {
-        let value = read_value(along, values, *read);
+    for k in 0..row.len() {
+        let value = read_value(along, values, row.read(k));
         if value < row.len() as u64 {
             stamps[value as usize] = stamp;
         }
@@ -45,7 +45,7 @@ fn first_without(stamps: &[u32], count: usize, stamp: u32) -> usize
 pub fn mex_of(
     along: Along,
     values: &[Value],
-    row: &[Read],
+    row: &Row<'_>,
     stamp: u32,
     stamps: &mut Vec<u32>,
 ) -> Value

@@ -4,7 +4,7 @@ ghost use Rattle.px_base.specs.Values.{IsValue, IsWeight};
 ghost use Rattle.px_base.specs.Rules.{edge_value, edge_values, gather, greatest, least};
 
 use crate::mex::mex_of;
-use px_base::{Along, Fold, Program, Read, Value};
+use px_base::{Along, Fold, Program, Read, Row, Value};
 use value_laws::edge_value;
 
 /// What the source's value becomes on the read.
@@ -18,29 +18,29 @@ pub fn read_value(along: Along, values: &[Value], read: Read) -> Value
 }
 
 /// The least of the start value and the edge values of the row.
-fn least_of(along: Along, values: &[Value], start: Value, row: &[Read]) -> Value
+fn least_of(along: Along, values: &[Value], start: Value, row: &Row<'_>) -> Value
     requires sources { All (λ r. r.source < length values.now) row.now }
     requires weights { All (λ r. IsWeight r.weight) row.now }
     requires values { All IsValue values.now }
     ensures { result ≡ least start (edge_values along values.now row.now) }
 {
     let mut best = start;
-    for read in row {
-        best = best.min(read_value(along, values, *read));
+    for k in 0..row.len() {
+        best = best.min(read_value(along, values, row.read(k)));
     }
     best
 }
 
 /// The greatest of the start value and the edge values of the row.
-fn greatest_of(along: Along, values: &[Value], start: Value, row: &[Read]) -> Value
+fn greatest_of(along: Along, values: &[Value], start: Value, row: &Row<'_>) -> Value
     requires sources { All (λ r. r.source < length values.now) row.now }
     requires weights { All (λ r. IsWeight r.weight) row.now }
     requires values { All IsValue values.now }
     ensures { result ≡ greatest start (edge_values along values.now row.now) }
 {
     let mut best = start;
-    for read in row {
-        best = best.max(read_value(along, values, *read));
+    for k in 0..row.len() {
+        best = best.max(read_value(along, values, row.read(k)));
     }
     best
 }
@@ -51,7 +51,7 @@ pub fn pulled(
     program: &Program,
     values: &[Value],
     start: Value,
-    row: &[Read],
+    row: &Row<'_>,
     stamp: u32,
     stamps: &mut Vec<u32>,
 ) -> Value

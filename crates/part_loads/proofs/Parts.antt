@@ -60,6 +60,9 @@ words_of [] fit = All-nil HasWord
 words_of (f ∷ pieces) fit =
     All-append HasWord (reads_in f) (flat_map reads_in pieces) (words_in f (All-head FrameFits f pieces fit)) (words_of pieces (All-tail FrameFits f pieces fit))
 
+pub words_kept : (load : LoadData) (setup : Setup) (last : ℕ) (entries : EntryLists) → Keeps load setup last entries → All HasWord entries.reads
+words_kept load setup last entries h = subst (λ (l : EntryLists). All HasWord l.reads) (sym h.joined) (words_of load.pieces h.pieces_fit)
+
 abbrev HasWeight : Read → Type 0
 HasWeight r = IsWeight r.weight
 

@@ -1,4 +1,7 @@
+//! Whether the entries of a load make a part, and the part that they make.
 ghost use Rattle.std.specs.Prelude.{◌≡◌, ◌≤◌, ◌↔◌, All, IfOk, IsTrue, length, map};
+ghost use Rattle.px_base.specs.declared.TheConstants.{MOST_READS};
+ghost use Rattle.px_base.specs.FrameFits.{IsWord};
 ghost use Rattle.px_base.specs.Graphs.{read_count};
 ghost use Rattle.px_base.specs.Parts.{is_within};
 ghost use Rattle.part_loads.specs.Keeping.{AreCounted, AreRows, joined_part};
@@ -52,6 +55,8 @@ fn values_of(alloc: Global, pairs: &[Update]) -> Result<Items<Value>, Memory>
 pub fn joined_part(alloc: Global, setup: &Setup, entries: Entries) -> Result<Part, Memory>
     requires range { setup.now.low ≤ setup.now.high }
     requires rows { AreRows setup.now.low setup.now.high entries.reads }
+    requires words { All (λ t. IsWord t.weight) entries.reads }
+    requires room { length entries.reads ≤ MOST_READS }
     ensures part { IfOk result (λ part. part ≡ joined_part setup.now entries) }
     ensures reads { IfOk result (λ part. read_count part.rows ≤ length entries.reads) }
 {

@@ -1,3 +1,4 @@
+//! The entries of the frames of a load, joined by kind.
 ghost use Rattle.std.specs.Prelude.{◌≡◌, ◌++◌, OnOk, OnErr};
 ghost use Rattle.part_loads.specs.Keeping.{no_entries, with_entries};
 
@@ -8,9 +9,13 @@ use std::marker::Model;
 /// The entries of the frames of a load, each kind joined.
 #[derive(Drop)]
 pub struct Entries {
+    /// The core start of each master, as far as they came.
     pub starts: Vec<Value>,
+    /// Each mirror with its core start.
     pub mirrors: Vec<Update>,
+    /// The boundary: the masters that other parts read.
     pub boundary: Vec<Pos>,
+    /// The reads of the masters, each with the master that reads.
     pub reads: Vec<Triple>,
 }
 
@@ -37,6 +42,7 @@ fn append<T: Drop>(list: &mut Vec<T>, items: Items<T>) -> Result<(), Memory>
 }
 
 impl Entries {
+    /// No entries yet.
     pub fn new(alloc: Global) -> Entries
         ensures { result ≡ no_entries }
     {

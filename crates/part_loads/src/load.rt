@@ -1,3 +1,4 @@
+//! A part on its way to a worker: a setup, then entries in frames, and at last the part.
 ghost use Rattle.std.specs.Prelude.{◌≡◌};
 ghost use Rattle.part_loads.specs.Loads.{is_piece, with_piece};
 
@@ -72,7 +73,8 @@ impl Model for Load {
 }
 
 impl Load {
-    ghost use Rattle.std.specs.Prelude.{◌≡◌, ◌^◌, ◌≤◌, [], ◌∷◌, ◌++◌, OnOk, OnErr, IfOk, IfSome, IfNone, Err};
+    ghost use Rattle.px_base.specs.declared.TheConstants.{MOST_READS};
+    ghost use Rattle.std.specs.Prelude.{◌≡◌, ◌≤◌, [], ◌∷◌, ◌++◌, OnOk, OnErr, IfOk, IfSome, IfNone, Err};
     ghost use Rattle.px_base.specs.Graphs.{HasWeights, read_count};
     ghost use Rattle.px_base.specs.Parts.{PartFits};
     ghost use Rattle.px_base.specs.FrameFits.{FrameFits, SetupFits};
@@ -132,7 +134,7 @@ impl Load {
         ensures refused { IfOk result (λ it. IfNone it (IsWhole self → ⊥)) }
         ensures fits { IfOk result (λ it. IfSome it (λ part. PartFits part)) }
         ensures weights { IfOk result (λ it. IfSome it (λ part. HasWeights part.rows)) }
-        ensures reads { IfOk result (λ it. IfSome it (λ part. read_count part.rows ≤ 2 ^ 25)) }
+        ensures reads { IfOk result (λ it. IfSome it (λ part. read_count part.rows ≤ MOST_READS)) }
     {
         let Load {
             alloc,

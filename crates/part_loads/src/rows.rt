@@ -1,11 +1,14 @@
-ghost use Rattle.std.specs.Prelude.{◌≡◌, ◌≤◌, ◌<◌, ◌≢◌, All, IfOk, length, map, take, drop};
+//! Rows made from reads that come sorted by their readers.
+ghost use Rattle.std.specs.Prelude.{◌≡◌, ◌≤◌, ◌<◌, ◌≢◌, ◌+◌, ◌++◌, ◌∷◌, [], All, IfOk, OnOk, length, map, take, drop};
 ghost use Rattle.std.specs.List.{HoldsAt};
-ghost use Rattle.px_base.specs.Graphs.{HasWeights, read_count};
+ghost use Rattle.px_base.specs.declared.TheConstants.{MOST_READS};
+ghost use Rattle.px_base.specs.FrameFits.{IsWord};
+ghost use Rattle.px_base.specs.Graphs.{read_count};
 ghost use Rattle.part_loads.specs.Keeping.{AreRows, rows_by};
 ghost use Rattle.part_loads.specs.Loads.{read_of};
 
-use px_base::{Items, Memory, Pos, Read, Triple};
-use std::alloc::{AllocError, Global};
+use px_base::{Memory, Pos, RowWeight, Rows, RowsBuilder, Triple};
+use std::alloc::Global;
 
 /// How many triples in front have the target.
 fn run_of(triples: &[Triple], target: Pos) -> usize
@@ -21,40 +24,36 @@ fn run_of(triples: &[Triple], target: Pos) -> usize
     triples.len()
 }
 
-/// The row that the triples make.
-fn row_of(alloc: Global, triples: &[Triple]) -> Result<Items<Read>, Memory>
-    ensures { IfOk result (λ row. row ≡ map read_of triples.now) }
+/// Puts the row that the triples make behind the rows that are done.
+fn add_row(rows: &mut RowsBuilder, triples: &[Triple]) -> Result<(), Memory>
+    requires words { All (λ t. IsWord t.weight) triples.now }
+    requires room { read_count rows.old.done + (length rows.old.open_row + length triples.now) ≤ MOST_READS }
+    ensures { OnOk result (rows.new ≡ record { done = rows.old.done ++ (rows.old.open_row ++ map read_of triples.now) ∷ []; open_row = [] }) }
 {
-    let mut row = Vec::with_capacity(alloc, triples.len())?;
     for triple in triples {
-        row.push(Read {
-            source: triple.source,
-            weight: triple.weight,
-        })?;
+        rows.push(triple.source, triple.weight as RowWeight)?;
     }
-    Ok(Items::from_vec(row))
+    rows.end_row()?;
+    Ok(())
 }
 
 /// The rows of the vertices of the range, of which these are the reads. The reads of one vertex stand together, behind those
 /// of the vertices before it, so one pass makes all rows.
-pub fn rows_of(
-    alloc: Global,
-    low: Pos,
-    high: Pos,
-    triples: &[Triple],
-) -> Result<Items<Items<Read>>, Memory>
+pub fn rows_of(alloc: Global, low: Pos, high: Pos, triples: &[Triple]) -> Result<Rows, Memory>
     requires range { low ≤ high }
     requires rows { AreRows low high triples.now }
+    requires words { All (λ t. IsWord t.weight) triples.now }
+    requires room { length triples.now ≤ MOST_READS }
     ensures rows { IfOk result (λ rows. rows ≡ rows_by low high triples.now) }
     ensures count { IfOk result (λ rows. read_count rows ≤ length triples.now) }
 {
-    let mut rows = Vec::with_capacity(alloc, (high - low) as usize)?;
+    let mut rows = RowsBuilder::new(alloc, (high - low) as usize, triples.len())?;
     let mut at = 0;
     for v in low..high {
         let rest = &triples[at..];
         let run = run_of(rest, v);
-        rows.push(row_of(alloc, &rest[..run])?)?;
+        add_row(&mut rows, &rest[..run])?;
         at += run;
     }
-    Ok(Items::from_vec(rows))
+    Ok(rows.finish())
 }

@@ -105,13 +105,11 @@ boundary_is n rows cuts i c size below =
     (λ v from to. sym (routed_is n rows cuts v i c size (record { below = below; from = from; to = omega (arith, low_below_high n cuts i c below) })))
 
 -- the same of a call's result, where the cuts and the rows are named as the call names them
-pub boundary_named : {T E : Type 0} (r : Result T E) (items : T → List ℕ) (n : ℕ) (rows all : List (List Read)) (cuts ends : List ℕ) (i : ℕ) → IsCuts n cuts → length rows ≡ n → i < part_count cuts →
-    ends ≡ cuts → all ≡ rows →
-    IfOk r (λ found. items found ≡ filter (λ u. list_any (reads_from u) (take (low_of ends i) all) || list_any (reads_from u) (drop (high_of ends i) all)) (range_with_len (low_of ends i) (high_of ends i - low_of ends i))) →
+pub boundary_named : {T E : Type 0} (r : Result T E) (items : T → List ℕ) (n : ℕ) (rows : List (List Read)) (cuts ends : List ℕ) (i : ℕ) → IsCuts n cuts → length rows ≡ n → i < part_count cuts →
+    ends ≡ cuts →
+    IfOk r (λ found. items found ≡ filter (λ u. list_any (reads_from u) (take (low_of ends i) rows) || list_any (reads_from u) (drop (high_of ends i) rows)) (range_with_len (low_of ends i) (high_of ends i - low_of ends i))) →
     IfOk r (λ found. items found ≡ boundary_of rows cuts i)
-boundary_named (Ok found) items n rows all cuts ends i c size below same_cuts same_rows is =
-    let P : List ℕ → List (List Read) → Type 0 = λ cs rs. items found ≡ filter (λ u. list_any (reads_from u) (take (low_of cs i) rs) || list_any (reads_from u) (drop (high_of cs i) rs)) (range_with_len (low_of cs i) (high_of cs i - low_of cs i)) in
-    let by_cuts : P cuts all = subst (λ (cs : List ℕ). P cs all) same_cuts is in
-    let by_rows : P cuts rows = subst (P cuts) same_rows by_cuts in
-    by_rows ∙ boundary_is n rows cuts i c size below
-boundary_named (Err e) items n rows all cuts ends i c size below same_cuts same_rows is = tt
+boundary_named (Ok found) items n rows cuts ends i c size below same is =
+    let P : List ℕ → Type 0 = λ cs. items found ≡ filter (λ u. list_any (reads_from u) (take (low_of cs i) rows) || list_any (reads_from u) (drop (high_of cs i) rows)) (range_with_len (low_of cs i) (high_of cs i - low_of cs i)) in
+    subst P same is ∙ boundary_is n rows cuts i c size below
+boundary_named (Err e) items n rows cuts ends i c size below same is = tt

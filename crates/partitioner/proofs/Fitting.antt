@@ -1,5 +1,5 @@
 -- Each part of fitting rows fits.
-use Rattle.std.proofs.Common.{◌≡◌, ℕ, ◌+◌, ◌-◌, ◌^◌, ◌<◌, ◌≤◌, Bool, true, false, List, length, map, get_or, drop, refl, sym, ap, subst, ◌∙◌, arith, length-take, length-drop, eqb-true, eq-eqb}
+use Rattle.std.proofs.Common.{◌≡◌, ℕ, ◌+◌, ◌-◌, ◌<◌, ◌≤◌, Bool, true, false, List, length, map, get_or, drop, refl, sym, ap, subst, ◌∙◌, arith, length-take, length-drop, eqb-true, eq-eqb}
 use Rattle.std.proofs.lemmas.List.{length-map}
 use Rattle.std.proofs.lemmas.List.Folds.{list_any_at}
 use Rattle.std.proofs.lemmas.Map.Views.{any-filter_same}
@@ -10,6 +10,7 @@ use Rattle.std.proofs.lemmas.List.Kept.{IsStrictlyIncreasing-filter}
 use Rattle.std.proofs.lemmas.List.Sums.{sum_by-take-le, sum_by-take-drop}
 use Rattle.std.proofs.lemmas.List.FromFn.{length-range_with_len, get_or-range_with_len}
 use Rattle.std.specs.Prelude.{Result, Ok, Err, IfOk}
+use Rattle.px_base.specs.declared.TheConstants.{MOST_VERTICES}
 use Rattle.px_base.specs.declared.graph.Read.{Read}
 use Rattle.px_base.specs.declared.graph.Part.{Part}
 use Rattle.px_base.specs.declared.memory.Memory.{Memory}
@@ -44,7 +45,7 @@ not_first false b h = refl
 pub mirrors_below : (rows : List (List Read)) (cuts : List ℕ) (i : ℕ) → All (λ m. m < length rows) (mirrors_of rows cuts i)
 mirrors_below rows cuts i = All-filter (is_mirror rows cuts i) (λ m. m < length rows) (positions_below (length rows)) (range_holds (λ m. m < length rows) 0 (length rows) (λ v from to. omega arith))
 
-mirrors_outside : (rows : List (List Read)) (cuts : List ℕ) (i : ℕ) → length rows ≤ 2 ^ 22 → All (λ m. (m < 2 ^ 22) × (is_within (low_of cuts i) (high_of cuts i) m ≡ false)) (mirrors_of rows cuts i)
+mirrors_outside : (rows : List (List Read)) (cuts : List ℕ) (i : ℕ) → length rows ≤ MOST_VERTICES → All (λ m. (m < MOST_VERTICES) × (is_within (low_of cuts i) (high_of cuts i) m ≡ false)) (mirrors_of rows cuts i)
 mirrors_outside rows cuts i room k d inside =
     let low : get_or (mirrors_of rows cuts i) k d < length rows = mirrors_below rows cuts i k d inside in
     let is : is_mirror rows cuts i (get_or (mirrors_of rows cuts i) k d) ≡ true = filter_passes (is_mirror rows cuts i) (positions_below (length rows)) k d inside in
@@ -89,12 +90,12 @@ boundary_inside rows cuts n i c below =
 pub sources_below : (n : ℕ) (rows : List (List Read)) → RowsFit n rows → All (λ row. All (λ r. r.source < length rows) row) rows
 sources_below n rows fit k d inside m e below = omega (arith, fit.one_each, fit.sources k d inside m e below)
 
-pub part_fits : (n : ℕ) (rows : List (List Read)) (starts cuts : List ℕ) (i : ℕ) → n ≤ 2 ^ 22 → RowsFit n rows → length starts ≡ n → All IsValue starts → IsWorkerCuts n cuts → i < part_count cuts →
+pub part_fits : (n : ℕ) (rows : List (List Read)) (starts cuts : List ℕ) (i : ℕ) → n ≤ MOST_VERTICES → RowsFit n rows → length starts ≡ n → All IsValue starts → IsWorkerCuts n cuts → i < part_count cuts →
     PartFits (part_of rows starts cuts i)
 part_fits n rows starts cuts i most fit size values c below =
     let one_each : length rows ≡ n = fit.one_each in
     let inside : high_of cuts i ≤ n = high_inside n cuts i c.cut below in
-    let room : length rows ≤ 2 ^ 22 = omega arith in
+    let room : length rows ≤ MOST_VERTICES = omega arith in
     let sources : All (λ row. All (λ r. r.source < length rows) row) rows = sources_below n rows fit in
     record {
       index = omega (arith, c.room);
@@ -124,19 +125,8 @@ pub made : (r : Result Part Memory) (p : Part) (P : Part → Type 0) → IfOk r 
 made (Ok part) p P is h = subst P (sym is) h
 made (Err e) p P is h = tt
 
--- the sources of a part's rows, where the rows are named as a call names them
-pub part_sources : (n : ℕ) (rows all : List (List Read)) (low high : ℕ) → all ≡ rows → RowsFit n rows → All (λ row. All (λ r. r.source < length all) row) (slice_range all low high)
-part_sources n rows all low high same fit =
-    let P : List (List Read) → Type 0 = λ xs. All (λ row. All (λ r. r.source < length xs) row) (slice_range xs low high) in
-    subst P (sym same) (part_holds (λ row. All (λ r. r.source < length rows) row) rows low high (sources_below n rows fit))
-
 pub mirrors_within : (rows : List (List Read)) (starts cuts mirrors : List ℕ) (n i : ℕ) → length starts ≡ n → RowsFit n rows → mirrors ≡ mirrors_of rows cuts i → All (λ u. u < length starts) mirrors
 mirrors_within rows starts cuts mirrors n i size fit is k d inside = omega (arith, fit.one_each, (let P : List ℕ → Type 0 = λ xs. All (λ u. u < length rows) xs in subst P (sym is) (mirrors_below rows cuts i)) k d inside)
-
-pub part_sources_below : (n m : ℕ) (rows all : List (List Read)) (low high : ℕ) → all ≡ rows → m ≡ n → All (λ row. All (λ r. r.source < n) row) rows → All (λ row. All (λ r. r.source < m) row) (slice_range all low high)
-part_sources_below n m rows all low high same size sources =
-    let P : List (List Read) → Type 0 = λ xs. All (λ row. All (λ r. r.source < m) row) (slice_range xs low high) in
-    subst P (sym same) (part_holds (λ row. All (λ r. r.source < m) row) rows low high (λ k d inside i e below. omega (arith, sources k d inside i e below)))
 
 -- ---- mirrors and routes
 

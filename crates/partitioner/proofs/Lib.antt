@@ -6,7 +6,6 @@ pub mod Found
 pub mod LowestBits
 pub mod Marked
 pub mod Mirrors
-pub mod Moved
 pub mod Owned
 pub mod Parted
 pub mod PositionSets

@@ -48,18 +48,16 @@ held_are n rows own words cuts j size wide same sources is =
     ∙ filter_agree (holds words) (is_mirror rows cuts j) (λ u. is u ∙ ap (λ rs. not (is_within (low_of cuts j) (high_of cuts j) u) && list_any (reads_from u) rs) same) (positions_below n)
     ∙ ap (λ m. filter (is_mirror rows cuts j) (positions_below m)) (sym size)
 
--- the same of a call's result, where the cuts, the rows and the set are named as the calls name them
-pub mirrors_named : {T E : Type 0} (r : Result T E) (items : T → List ℕ) (n : ℕ) (rows all : List (List Read)) (words named cuts ends : List ℕ) (j : ℕ) → length rows ≡ n → length words ≡ n / 64 + 1 → named ≡ words → ends ≡ cuts → all ≡ rows →
+-- the same of a call's result, where the cuts and the set are named as the calls name them
+pub mirrors_named : {T E : Type 0} (r : Result T E) (items : T → List ℕ) (n : ℕ) (rows : List (List Read)) (words named cuts ends : List ℕ) (j : ℕ) → length rows ≡ n → length words ≡ n / 64 + 1 → named ≡ words → ends ≡ cuts →
     All (λ row. All (λ r. r.source < n) row) rows →
-    ((u : ℕ) → holds words u ≡ (not (is_within (low_of ends j) (high_of ends j) u) && list_any (reads_from u) (slice_range all (low_of ends j) (high_of ends j)))) →
+    ((u : ℕ) → holds words u ≡ (not (is_within (low_of ends j) (high_of ends j) u) && list_any (reads_from u) (slice_range rows (low_of ends j) (high_of ends j)))) →
     IfOk r (λ found. items found ≡ filter (holds named) (positions_below (64 * length named))) → IfOk r (λ found. items found ≡ mirrors_of rows cuts j)
-mirrors_named (Err e) items n rows all words named cuts ends j size wide same same_cuts same_rows sources is found = tt
-mirrors_named (Ok t) items n rows all words named cuts ends j size wide same same_cuts same_rows sources is found =
-    let P : List ℕ → List (List Read) → Type 0 = λ cs rs. (u : ℕ) → holds words u ≡ (not (is_within (low_of cs j) (high_of cs j) u) && list_any (reads_from u) (slice_range rs (low_of cs j) (high_of cs j))) in
-    let by_cuts : P cuts all = subst (λ (cs : List ℕ). P cs all) same_cuts is in
-    let by_rows : P cuts rows = subst (P cuts) same_rows by_cuts in
+mirrors_named (Err e) items n rows words named cuts ends j size wide same same_cuts sources is found = tt
+mirrors_named (Ok t) items n rows words named cuts ends j size wide same same_cuts sources is found =
+    let P : List ℕ → Type 0 = λ cs. (u : ℕ) → holds words u ≡ (not (is_within (low_of cs j) (high_of cs j) u) && list_any (reads_from u) (slice_range rows (low_of cs j) (high_of cs j))) in
     found ∙ ap (λ ws. filter (holds ws) (positions_below (64 * length ws))) same
-    ∙ held_are n rows (part_rows rows cuts j) words cuts j size (omega (arith, wide)) refl (part_holds (λ row. All (λ r. r.source < n) row) rows (low_of cuts j) (high_of cuts j) sources) by_rows
+    ∙ held_are n rows (part_rows rows cuts j) words cuts j size (omega (arith, wide)) refl (part_holds (λ row. All (λ r. r.source < n) row) rows (low_of cuts j) (high_of cuts j) sources) (subst P same_cuts is)
 
 -- ---- the bits of all parts
 

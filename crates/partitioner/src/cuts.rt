@@ -1,3 +1,4 @@
+//! Cuts of the vertices into blocks of nearly the same size, and the owner of a position.
 ghost use Rattle.std.specs.Prelude.{◌≡◌, ◌≤◌, ◌<◌, ◌+◌, ◌*◌, ◌/◌, ◌-◌, IfOk, length, slice_index};
 ghost use Rattle.px_base.specs.Parts.{IsOwner, IsWorkerCuts, block_cuts};
 ghost use Rattle.partitioner.specs.Cuts.{vertex_count};
@@ -9,6 +10,7 @@ use std::alloc::Global;
 /// 0, never fall, and end at the number of vertices.
 #[derive(Clone, Debug, PartialEq, Eq, Drop)]
 pub struct Cuts {
+    /// Where each part begins, and at last the number of vertices.
     pub ends: Items<Pos>,
 }
 

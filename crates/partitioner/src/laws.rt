@@ -1,4 +1,6 @@
-ghost use Rattle.std.specs.Prelude.{◌≡◌, ◌≤◌, ◌<◌, ◌^◌, ◌↔◌, ◌-◌, ℕ, List, All, IsTrue, length, slice_index};
+//! Laws of cuts, parts and routes.
+ghost use Rattle.std.specs.Prelude.{◌≡◌, ◌≤◌, ◌<◌, ◌↔◌, ◌-◌, ℕ, List, All, IsTrue, length, slice_index};
+ghost use Rattle.px_base.specs.declared.TheConstants.{MOST_VERTICES};
 ghost use Rattle.px_base.specs.declared.graph.Read.{Read as ReadData};
 ghost use Rattle.px_base.specs.Values.{IsValue, is_listed};
 ghost use Rattle.px_base.specs.Graphs.{RowsFit};
@@ -17,7 +19,7 @@ pub fn blocks_are_cuts()
 
 /// Each part of fitting rows fits.
 pub fn parts_fit()
-    ensures { (n : ℕ) (rows : List (List ReadData)) (starts cuts : List ℕ) (i : ℕ) → n ≤ 2 ^ 22 → RowsFit n rows → length starts ≡ n → All IsValue starts → IsWorkerCuts n cuts → i < part_count cuts →
+    ensures { (n : ℕ) (rows : List (List ReadData)) (starts cuts : List ℕ) (i : ℕ) → n ≤ MOST_VERTICES → RowsFit n rows → length starts ≡ n → All IsValue starts → IsWorkerCuts n cuts → i < part_count cuts →
         PartFits (part_of rows starts cuts i) }
 {}
 

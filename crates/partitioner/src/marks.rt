@@ -1,31 +1,33 @@
-ghost use Rattle.std.specs.Prelude.{◌≡◌, ◌≤◌, ◌<◌, ◌-◌, ◌^◌, ◌&&◌, ◌||◌, ℕ, false, not, All, IfOk, filter, length, slice_index_or};
+//! Marks at the positions that rows read, and the positions marked in a range or outside it.
+ghost use Rattle.std.specs.Prelude.{◌≡◌, ◌≤◌, ◌<◌, ◌-◌, ◌&&◌, ◌||◌, ℕ, false, not, All, IfOk, filter, length, slice_index_or, slice_range};
 ghost use Rattle.std.specs.List.{list_any, range_with_len};
-ghost use Rattle.px_base.specs.Values.{positions_below};
+ghost use Rattle.px_base.specs.declared.TheConstants.{MOST_VERTICES};
+ghost use Rattle.px_base.specs.Values.{is_listed, positions_below};
 ghost use Rattle.px_base.specs.Parts.{is_within, reads_from};
 
-use px_base::{Items, Memory, Pos, Read};
+use px_base::{Memory, Pos, Rows};
 use std::alloc::Global;
 
-/// Marks each position that the row reads.
+/// Marks each of the positions.
 #[tactic(auto, using(crate::proofs::Marked::marked_more))]
-fn mark_row(marks: &mut [bool], row: &[Read])
-    requires { All (λ r. r.source < length marks.old) row.now }
-    ensures { (u : ℕ) → slice_index_or marks.new u false ≡ (slice_index_or marks.old u false || reads_from u row.now) }
+fn mark(marks: &mut [bool], positions: &[Pos])
+    requires { All (λ u. u < length marks.old) positions.now }
+    ensures { (u : ℕ) → slice_index_or marks.new u false ≡ (slice_index_or marks.old u false || is_listed positions.now u) }
 {
-    for read in row {
-        marks[read.source as usize] = true;
+    for at in positions {
+        marks[*at as usize] = true;
     }
 }
 
-/// Marks each position that some row reads.
-#[tactic(auto, using(crate::proofs::Marked::marked_rows_more))]
-pub fn mark_rows(marks: &mut [bool], rows: &[Items<Read>])
-    requires { All (λ row. All (λ r. r.source < length marks.old) row) rows.now }
-    ensures { (u : ℕ) → slice_index_or marks.new u false ≡ (slice_index_or marks.old u false || list_any (reads_from u) rows.now) }
+/// Marks each position that some row from `low` up to `high` reads.
+#[tactic(auto, using(px_base::proofs::FlatConcat::all_between))]
+pub fn mark_rows(marks: &mut [bool], rows: &Rows, low: usize, high: usize)
+    requires order { low ≤ high }
+    requires inside { high ≤ length rows.now }
+    requires sources { All (λ row. All (λ r. r.source < length marks.old) row) rows.now }
+    ensures { (u : ℕ) → slice_index_or marks.new u false ≡ (slice_index_or marks.old u false || list_any (reads_from u) (slice_range rows.now low high)) }
 {
-    for row in rows {
-        mark_row(marks, row.as_slice());
-    }
+    mark(marks, rows.sources_between(low, high));
 }
 
 fn count_marked(marks: &[bool]) -> usize {
@@ -46,7 +48,7 @@ pub fn marked_outside(
     low: Pos,
     high: Pos,
 ) -> Result<Vec<Pos>, Memory>
-    requires { length marks.now ≤ 2 ^ 22 }
+    requires { length marks.now ≤ MOST_VERTICES }
     ensures { IfOk result (λ found. found.items ≡ filter (λ u. not (is_within low high u) && slice_index_or marks.now u false) (positions_below (length marks.now))) }
 {
     let mut found = Vec::with_capacity(alloc, count_marked(marks))?;

@@ -1,5 +1,7 @@
-ghost use Rattle.std.specs.Prelude.{◌≡◌, ◌≤◌, ◌<◌, ◌+◌, ◌-◌, ◌^◌, ◌&&◌, ◌||◌, ℕ, false, not, All, IfOk, filter, length, map, take, drop, slice_index, slice_index_or, slice_range};
+//! One part of a graph: its rows, its mirrors and its boundary.
+ghost use Rattle.std.specs.Prelude.{◌≡◌, ◌≤◌, ◌<◌, ◌+◌, ◌-◌, ◌&&◌, ◌||◌, ℕ, false, not, All, IfOk, filter, length, map, take, drop, slice_index, slice_index_or, slice_range};
 ghost use Rattle.std.specs.List.{list_any, range_with_len};
+ghost use Rattle.px_base.specs.declared.TheConstants.{MOST_VERTICES};
 ghost use Rattle.px_base.specs.Values.{IsValue, positions_below};
 ghost use Rattle.px_base.specs.Graphs.{HasWeights, RowsFit, read_count};
 ghost use Rattle.px_base.specs.Parts.{IsWorkerCuts, PartFits, is_within, part_count, part_of, part_rows, mirrors_of, boundary_of, reads_from};
@@ -7,62 +9,53 @@ ghost use Rattle.partitioner.specs.Pieces.{part_with};
 
 use crate::cuts::Cuts;
 use crate::marks::{mark_rows, marked_inside, marked_outside};
-use px_base::{Items, Memory, Part, Pos, Read, ReadGraph, Value};
+use px_base::{Items, Memory, Part, Pos, ReadGraph, Rows, Value};
 use std::alloc::Global;
 
-/// A mark for each of `n` positions: whether some row reads it.
+/// A mark for each position: whether some row from `low` up to `high` reads it.
 #[tactic(auto, using(crate::proofs::Marked::no_mark))]
-fn marks_of(alloc: Global, n: usize, rows: &[Items<Read>]) -> Result<Vec<bool>, Memory>
-    requires { All (λ row. All (λ r. r.source < n) row) rows.now }
-    ensures length { IfOk result (λ marks. length marks.items ≡ n) }
-    ensures marks { IfOk result (λ marks. (u : ℕ) → slice_index_or marks.items u false ≡ list_any (reads_from u) rows.now) }
+fn marks_of(alloc: Global, rows: &Rows, low: usize, high: usize) -> Result<Vec<bool>, Memory>
+    requires order { low ≤ high }
+    requires inside { high ≤ length rows.now }
+    requires sources { All (λ row. All (λ r. r.source < length rows.now) row) rows.now }
+    ensures length { IfOk result (λ marks. length marks.items ≡ length rows.now) }
+    ensures marks { IfOk result (λ marks. (u : ℕ) → slice_index_or marks.items u false ≡ list_any (reads_from u) (slice_range rows.now low high)) }
 {
-    let mut marks = vec![in alloc; false; n]?;
-    mark_rows(&mut marks, rows);
+    let mut marks = vec![in alloc; false; rows.row_count()]?;
+    mark_rows(&mut marks, rows, low, high);
     Ok(marks)
 }
 
-/// The positions outside the range that these rows read, rising.
+/// The positions outside the range that its rows read, rising.
 #[tactic(auto, using(crate::proofs::Marked::marked_mirrors))]
-fn mirrors(
-    alloc: Global,
-    n: usize,
-    own: &[Items<Read>],
-    low: Pos,
-    high: Pos,
-) -> Result<Vec<Pos>, Memory>
-    requires room { n ≤ 2 ^ 22 }
-    requires sources { All (λ row. All (λ r. r.source < n) row) own.now }
-    ensures { IfOk result (λ found. found.items ≡ filter (λ u. not (is_within low high u) && list_any (reads_from u) own.now) (positions_below n)) }
+fn mirrors(alloc: Global, rows: &Rows, low: Pos, high: Pos) -> Result<Vec<Pos>, Memory>
+    requires room { length rows.now ≤ MOST_VERTICES }
+    requires order { low ≤ high }
+    requires inside { high ≤ length rows.now }
+    requires sources { All (λ row. All (λ r. r.source < length rows.now) row) rows.now }
+    ensures { IfOk result (λ found. found.items ≡ filter (λ u. not (is_within low high u) && list_any (reads_from u) (slice_range rows.now low high)) (positions_below (length rows.now))) }
 {
-    let marks = marks_of(alloc, n, own)?;
+    let marks = marks_of(alloc, rows, low as usize, high as usize)?;
     marked_outside(alloc, marks.as_slice(), low, high)
 }
 
 /// A mark for each position: whether some row outside the range reads it.
-fn marks_from_outside(
-    alloc: Global,
-    rows: &[Items<Read>],
-    low: Pos,
-    high: Pos,
-) -> Result<Vec<bool>, Memory>
+fn marks_from_outside(alloc: Global, rows: &Rows, low: Pos, high: Pos) -> Result<Vec<bool>, Memory>
     requires low { low ≤ length rows.now }
     requires high { high ≤ length rows.now }
     requires sources { All (λ row. All (λ r. r.source < length rows.now) row) rows.now }
     ensures length { IfOk result (λ marks. length marks.items ≡ length rows.now) }
     ensures marks { IfOk result (λ marks. (u : ℕ) →
-        slice_index_or marks.items u false ≡ (list_any (reads_from u) (take low rows.now) || list_any (reads_from u) (drop high rows.now))) }
+        slice_index_or marks.items u false ≡ (list_any (reads_from u) (slice_range rows.now 0 low) || list_any (reads_from u) (slice_range rows.now high (length rows.now)))) }
 {
-    let (before, _) = rows.split_at(low as usize);
-    let (_, after) = rows.split_at(high as usize);
-    let mut marks = marks_of(alloc, rows.len(), before)?;
-    mark_rows(&mut marks, after);
+    let mut marks = marks_of(alloc, rows, 0, low as usize)?;
+    mark_rows(&mut marks, rows, high as usize, rows.row_count());
     Ok(marks)
 }
 
 /// The positions in the range that rows outside it read, rising.
 #[tactic(auto, using(crate::proofs::Marked::marked_boundary))]
-fn boundary(alloc: Global, rows: &[Items<Read>], low: Pos, high: Pos) -> Result<Vec<Pos>, Memory>
+fn boundary(alloc: Global, rows: &Rows, low: Pos, high: Pos) -> Result<Vec<Pos>, Memory>
     requires range { low ≤ high }
     requires inside { high ≤ length rows.now }
     requires sources { All (λ row. All (λ r. r.source < length rows.now) row) rows.now }
@@ -71,22 +64,6 @@ fn boundary(alloc: Global, rows: &[Items<Read>], low: Pos, high: Pos) -> Result<
 {
     let marks = marks_from_outside(alloc, rows, low, high)?;
     marked_inside(alloc, marks.as_slice(), low, high)
-}
-
-fn copied_row(row: &Items<Read>) -> Result<Items<Read>, Memory>
-    ensures { IfOk result (λ copy. copy ≡ row.now) }
-{
-    Ok(row.clone()?)
-}
-
-fn copied_rows(alloc: Global, rows: &[Items<Read>]) -> Result<Vec<Items<Read>>, Memory>
-    ensures { IfOk result (λ copies. copies.items ≡ rows.now) }
-{
-    let mut copies = Vec::with_capacity(alloc, rows.len())?;
-    for row in rows {
-        copies.push(copied_row(row)?)?;
-    }
-    Ok(copies)
 }
 
 /// The values of the positions, in their order.
@@ -102,7 +79,7 @@ fn values_at(alloc: Global, values: &[Value], positions: &[Pos]) -> Result<Vec<V
 }
 
 /// The mirrors of part `i`, rising.
-#[tactic(auto, using(crate::proofs::Fitting::part_sources, crate::proofs::Owned::low_below_high, crate::proofs::Owned::high_inside))]
+#[tactic(auto, using(crate::proofs::Fitting::sources_below, crate::proofs::Owned::low_below_high, crate::proofs::Owned::high_inside))]
 fn mirrors_of_part(
     alloc: Global,
     graph: &ReadGraph,
@@ -110,16 +87,14 @@ fn mirrors_of_part(
     i: u32,
 ) -> Result<Vec<Pos>, Memory>
     requires rows { RowsFit graph.now.n graph.now.rows }
-    requires most { graph.now.n ≤ 2 ^ 22 }
+    requires most { graph.now.n ≤ MOST_VERTICES }
     requires cuts { IsWorkerCuts graph.now.n cuts.now.ends }
     requires part { i < part_count cuts.now.ends }
     ensures { IfOk result (λ found. found.items ≡ mirrors_of graph.now.rows cuts.now.ends i) }
 {
     let ends = cuts.ends.as_slice();
     let (low, high) = (ends[i as usize], ends[i as usize + 1]);
-    let rows = graph.rows.as_slice();
-    let own = &rows[low as usize..high as usize];
-    mirrors(alloc, rows.len(), own, low, high)
+    mirrors(alloc, &graph.rows, low, high)
 }
 
 /// The boundary of part `i`, rising.
@@ -137,32 +112,26 @@ fn boundary_of_part(
 {
     let ends = cuts.ends.as_slice();
     let (low, high) = (ends[i as usize], ends[i as usize + 1]);
-    boundary(alloc, graph.rows.as_slice(), low, high)
+    boundary(alloc, &graph.rows, low, high)
 }
 
 /// Copies of the rows of part `i`.
 #[tactic(auto, using(crate::proofs::Owned::low_below_high, crate::proofs::Owned::high_inside))]
-fn rows_of_part(
-    alloc: Global,
-    graph: &ReadGraph,
-    cuts: &Cuts,
-    i: u32,
-) -> Result<Vec<Items<Read>>, Memory>
-    requires one_each { length graph.now.rows ≡ graph.now.n }
-    requires cuts { IsWorkerCuts graph.now.n cuts.now.ends }
+pub fn rows_of_part(alloc: Global, rows: &Rows, cuts: &Cuts, i: u32) -> Result<Rows, Memory>
+    requires cuts { IsWorkerCuts (length rows.now) cuts.now.ends }
     requires part { i < part_count cuts.now.ends }
-    ensures { IfOk result (λ own. own.items ≡ part_rows graph.now.rows cuts.now.ends i) }
+    ensures { IfOk result (λ own. own ≡ part_rows rows.now cuts.now.ends i) }
 {
     let ends = cuts.ends.as_slice();
     let (low, high) = (ends[i as usize], ends[i as usize + 1]);
-    copied_rows(alloc, &graph.rows.as_slice()[low as usize..high as usize])
+    rows.copy_range(alloc, low as usize, high as usize)
 }
 
 /// Part `i` with these rows, mirrors and boundary.
 #[tactic(auto, using(crate::proofs::Owned::low_below_high, crate::proofs::Owned::high_inside))]
 pub fn assemble(
     alloc: Global,
-    own: Vec<Items<Read>>,
+    own: Rows,
     starts: &[Value],
     cuts: &Cuts,
     i: u32,
@@ -172,7 +141,7 @@ pub fn assemble(
     requires cuts { IsWorkerCuts (length starts.now) cuts.now.ends }
     requires part { i < part_count cuts.now.ends }
     requires mirrors { All (λ u. u < length starts.now) mirrors.items }
-    ensures { IfOk result (λ part. part ≡ part_with own.items starts.now cuts.now.ends i mirrors.items boundary.items) }
+    ensures { IfOk result (λ part. part ≡ part_with own starts.now cuts.now.ends i mirrors.items boundary.items) }
 {
     let ends = cuts.ends.as_slice();
     let (low, high) = (ends[i as usize], ends[i as usize + 1]);
@@ -182,7 +151,7 @@ pub fn assemble(
         index: i,
         low,
         high,
-        rows: Items::from_vec(own),
+        rows: own,
         starts: Items::from_vec(own_starts),
         mirrors: Items::from_vec(mirrors),
         mirror_starts: Items::from_vec(mirror_starts),
@@ -202,7 +171,7 @@ pub fn part(
     i: u32,
 ) -> Result<Part, Memory>
     requires rows { RowsFit graph.now.n graph.now.rows }
-    requires most { graph.now.n ≤ 2 ^ 22 }
+    requires most { graph.now.n ≤ MOST_VERTICES }
     requires cuts { IsWorkerCuts graph.now.n cuts.now.ends }
     requires one_each { length starts.now ≡ graph.now.n }
     requires values { All IsValue starts.now }
@@ -214,6 +183,6 @@ pub fn part(
 {
     let mirrors = mirrors_of_part(alloc, graph, cuts, i)?;
     let boundary = boundary_of_part(alloc, graph, cuts, i)?;
-    let own = rows_of_part(alloc, graph, cuts, i)?;
+    let own = rows_of_part(alloc, &graph.rows, cuts, i)?;
     assemble(alloc, own, starts, cuts, i, mirrors, boundary)
 }

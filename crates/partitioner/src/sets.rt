@@ -1,12 +1,12 @@
 //! Sets of positions, with 64 positions to a word. So the set of what one part reads stays in a processor's cache.
-ghost use Rattle.std.specs.Prelude.{◌≡◌, ◌==◌, ◌≤◌, ◌<◌, ◌+◌, ◌*◌, ◌/◌, ◌^◌, ◌&&◌, ◌||◌, ◌++◌, ℕ, false, true, not, All, IfOk, OnOk, filter, length};
+ghost use Rattle.std.specs.Prelude.{◌≡◌, ◌==◌, ◌≤◌, ◌<◌, ◌+◌, ◌*◌, ◌/◌, ◌^◌, ◌&&◌, ◌||◌, ◌++◌, ℕ, false, true, not, All, IfOk, OnOk, filter, length, slice_range};
 ghost use Rattle.std.specs.List.{list_any};
-ghost use Rattle.px_base.specs.Values.{positions_below};
+ghost use Rattle.px_base.specs.Values.{is_listed, positions_below};
 ghost use Rattle.px_base.specs.Parts.{is_within, reads_from};
 ghost use Rattle.partitioner.specs.Bits.{has_bit, holds, word_positions};
 
 use crate::words::{with_bit, without_lowest};
-use px_base::{Items, Memory, Pos, Read};
+use px_base::{Memory, Pos, Rows};
 use std::alloc::Global;
 
 fn is_outside(low: Pos, high: Pos, at: Pos) -> bool
@@ -26,41 +26,43 @@ fn add(set: &mut [u64], at: Pos, low: Pos, high: Pos)
     }
 }
 
-/// Puts each position outside the range that the row reads into the set.
-fn add_row(set: &mut [u64], row: &[Read], low: Pos, high: Pos)
-    requires { All (λ r. r.source < 64 * length set.old) row.now }
-    ensures { (u : ℕ) → holds set.new u ≡ (holds set.old u || (not (is_within low high u) && reads_from u row.now)) }
+/// Puts each of the positions that is outside the range into the set.
+fn add_outside(set: &mut [u64], positions: &[Pos], low: Pos, high: Pos)
+    requires { All (λ u. u < 64 * length set.old) positions.now }
+    ensures { (u : ℕ) → holds set.new u ≡ (holds set.old u || (not (is_within low high u) && is_listed positions.now u)) }
 {
-    for read in row {
-        add(set, read.source, low, high);
+    for at in positions {
+        add(set, *at, low, high);
     }
 }
 
-/// Puts each position outside the range that some row reads into the set.
-fn add_rows(set: &mut [u64], rows: &[Items<Read>], low: Pos, high: Pos)
-    requires { All (λ row. All (λ r. r.source < 64 * length set.old) row) rows.now }
-    ensures { (u : ℕ) → holds set.new u ≡ (holds set.old u || (not (is_within low high u) && list_any (reads_from u) rows.now)) }
+/// Puts each position outside the range that some row of the range reads into the set.
+fn add_rows(set: &mut [u64], rows: &Rows, low: Pos, high: Pos)
+    requires order { low ≤ high }
+    requires inside { high ≤ length rows.now }
+    requires sources { All (λ row. All (λ r. r.source < 64 * length set.old) row) rows.now }
+    ensures { (u : ℕ) → holds set.new u ≡ (holds set.old u || (not (is_within low high u) && list_any (reads_from u) (slice_range rows.now low high))) }
 {
-    for row in rows {
-        add_row(set, row.as_slice(), low, high);
-    }
+    add_outside(
+        set,
+        rows.sources_between(low as usize, high as usize),
+        low,
+        high,
+    );
 }
 
-/// The set of the positions outside the range that some row reads.
+/// The set of the positions outside the range that some row of the range reads.
 #[tactic(auto, using(crate::proofs::PositionSets::holds_none, crate::proofs::PositionSets::sources_inside))]
-pub fn read_outside(
-    alloc: Global,
-    n: u32,
-    rows: &[Items<Read>],
-    low: Pos,
-    high: Pos,
-) -> Result<Vec<u64>, Memory>
-    requires { All (λ row. All (λ r. r.source < n) row) rows.now }
-    ensures size { IfOk result (λ set. length set.items ≡ n / 64 + 1) }
+pub fn read_outside(alloc: Global, rows: &Rows, low: Pos, high: Pos) -> Result<Vec<u64>, Memory>
+    requires order { low ≤ high }
+    requires inside { high ≤ length rows.now }
+    requires few { length rows.now < 2 ^ 32 }
+    requires sources { All (λ row. All (λ r. r.source < length rows.now) row) rows.now }
+    ensures size { IfOk result (λ set. length set.items ≡ length rows.now / 64 + 1) }
     ensures room { IfOk result (λ set. length set.items ≤ 2 ^ 26) }
-    ensures holds { IfOk result (λ set. (u : ℕ) → holds set.items u ≡ (not (is_within low high u) && list_any (reads_from u) rows.now)) }
+    ensures holds { IfOk result (λ set. (u : ℕ) → holds set.items u ≡ (not (is_within low high u) && list_any (reads_from u) (slice_range rows.now low high))) }
 {
-    let mut set = vec![in alloc; 0u64; n as usize / 64 + 1]?;
+    let mut set = vec![in alloc; 0u64; rows.row_count() / 64 + 1]?;
     add_rows(&mut set, rows, low, high);
     Ok(set)
 }

@@ -1,3 +1,4 @@
+//! The route of each position: the parts that mirror it.
 ghost use Rattle.std.specs.Prelude.{◌≡◌, ◌≤◌, ◌<◌, ◌&&◌, ℕ, nat_lt, All, IfOk, filter, length, slice_index};
 ghost use Rattle.px_base.specs.Values.{by_position, positions_below};
 ghost use Rattle.px_base.specs.Parts.{IsWorkerCuts, is_mirror, part_count, routes_of};
@@ -11,6 +12,7 @@ use std::alloc::Global;
 /// For each position the parts that mirror it, rising.
 #[derive(Clone, Debug, PartialEq, Eq, Drop)]
 pub struct RouteTable {
+    /// The route of each position: numbers of parts, rising.
     pub to: Items<Items<u32>>,
 }
 
@@ -40,6 +42,6 @@ pub fn routes(alloc: Global, graph: &ReadGraph, cuts: &Cuts) -> Result<RouteTabl
     requires cuts { IsWorkerCuts graph.now.n cuts.now.ends }
     ensures { IfOk result (λ table. table.to ≡ routes_of graph.now.rows cuts.now.ends) }
 {
-    let all = all_mirrors(alloc, graph, cuts)?;
+    let all = all_mirrors(alloc, graph.n, &graph.rows, cuts)?;
     bit_table(alloc, all.words.as_slice())
 }

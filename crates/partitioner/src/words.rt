@@ -8,7 +8,7 @@ ghost use Rattle.partitioner.specs.Bits.{HasBitsBelow, has_bit};
 
 use crate::cuts::Cuts;
 use crate::sets::{positions, read_outside};
-use px_base::{Items, Memory, Pos, ReadGraph};
+use px_base::{Items, Memory, Pos, Rows};
 use std::alloc::Global;
 
 /// The word with bit `j` as well.
@@ -55,18 +55,17 @@ fn set_bit(words: &mut [u64], positions: &[Pos], j: u32)
 }
 
 /// The mirrors of part `j`, rising.
-#[tactic(auto, using(crate::proofs::Fitting::part_sources_below, crate::proofs::Owned::low_below_high, crate::proofs::Owned::high_inside))]
-fn mirrors(alloc: Global, graph: &ReadGraph, cuts: &Cuts, j: u32) -> Result<Vec<Pos>, Memory>
-    requires one_each { length graph.now.rows ≡ graph.now.n }
-    requires sources { All (λ row. All (λ r. r.source < graph.now.n) row) graph.now.rows }
-    requires cuts { IsWorkerCuts graph.now.n cuts.now.ends }
+#[tactic(auto, using(crate::proofs::Owned::low_below_high, crate::proofs::Owned::high_inside))]
+fn mirrors(alloc: Global, rows: &Rows, cuts: &Cuts, j: u32) -> Result<Vec<Pos>, Memory>
+    requires few { length rows.now < 2 ^ 32 }
+    requires sources { All (λ row. All (λ r. r.source < length rows.now) row) rows.now }
+    requires cuts { IsWorkerCuts (length rows.now) cuts.now.ends }
     requires part { j < part_count cuts.now.ends }
-    ensures { IfOk result (λ found. found.items ≡ mirrors_of graph.now.rows cuts.now.ends j) }
+    ensures { IfOk result (λ found. found.items ≡ mirrors_of rows.now cuts.now.ends j) }
 {
     let ends = cuts.ends.as_slice();
     let (low, high) = (ends[j as usize], ends[j as usize + 1]);
-    let own = &graph.rows.as_slice()[low as usize..high as usize];
-    let set = read_outside(alloc, graph.n, own, low, high)?;
+    let set = read_outside(alloc, rows, low, high)?;
     positions(alloc, set.as_slice())
 }
 
@@ -74,26 +73,28 @@ fn mirrors(alloc: Global, graph: &ReadGraph, cuts: &Cuts, j: u32) -> Result<Vec<
 /// part j mirrors it.
 #[derive(Drop)]
 pub struct Mirrored {
+    /// The mirrors of each part, rising.
     pub lists: Vec<Items<Pos>>,
+    /// A word for each position: bit j where part j mirrors it.
     pub words: Vec<u64>,
 }
 
-/// The mirrors of all parts. It takes one pass over the reads, and one over the mirrors.
+/// The mirrors of all parts of a graph of `n` vertices. It takes one pass over the reads, and one over the mirrors.
 #[tactic(auto, using(crate::proofs::BitWords::no_bit))]
-pub fn all_mirrors(alloc: Global, graph: &ReadGraph, cuts: &Cuts) -> Result<Mirrored, Memory>
-    requires one_each { length graph.now.rows ≡ graph.now.n }
-    requires sources { All (λ row. All (λ r. r.source < graph.now.n) row) graph.now.rows }
-    requires cuts { IsWorkerCuts graph.now.n cuts.now.ends }
-    ensures lists { IfOk result (λ all. all.lists.items ≡ by_position (part_count cuts.now.ends) (mirrors_of graph.now.rows cuts.now.ends)) }
-    ensures size { IfOk result (λ all. length all.words.items ≡ graph.now.n) }
+pub fn all_mirrors(alloc: Global, n: u32, rows: &Rows, cuts: &Cuts) -> Result<Mirrored, Memory>
+    requires one_each { length rows.now ≡ n }
+    requires sources { All (λ row. All (λ r. r.source < length rows.now) row) rows.now }
+    requires cuts { IsWorkerCuts (length rows.now) cuts.now.ends }
+    ensures lists { IfOk result (λ all. all.lists.items ≡ by_position (part_count cuts.now.ends) (mirrors_of rows.now cuts.now.ends)) }
+    ensures size { IfOk result (λ all. length all.words.items ≡ length rows.now) }
     ensures bits { IfOk result (λ all. (u k : ℕ) →
-        has_bit (slice_index all.words.items u) k ≡ (nat_lt k (part_count cuts.now.ends) && is_mirror graph.now.rows cuts.now.ends k u)) }
+        has_bit (slice_index all.words.items u) k ≡ (nat_lt k (part_count cuts.now.ends) && is_mirror rows.now cuts.now.ends k u)) }
 {
     let parts = (cuts.ends.as_slice().len() - 1) as u32;
-    let mut words = vec![in alloc; 0u64; graph.n as usize]?;
+    let mut words = vec![in alloc; 0u64; n as usize]?;
     let mut lists = Vec::with_capacity(alloc, parts as usize)?;
     for j in 0..parts {
-        let found = mirrors(alloc, graph, cuts, j)?;
+        let found = mirrors(alloc, rows, cuts, j)?;
         set_bit(&mut words, &found, j);
         lists.push(Items::from_vec(found))?;
     }

@@ -3,7 +3,7 @@ use Rattle.std.proofs.Common.{◌≡◌, ◌≢◌, ℕ, ◌+◌, ◌*◌, ◌^�
 use Rattle.std.specs.Prelude.{slice_index, sum, if◌then◌else◌}
 use Rattle.std.proofs.lemmas.Bool.{cases_lt}
 use Rattle.std.proofs.lemmas.List.Sums.{sum_by-cons}
-use Rattle.px_base.specs.declared.TheConstants.{TOP}
+use Rattle.px_base.specs.declared.TheConstants.{MOST_VERTICES, TOP}
 use Rattle.px_base.specs.declared.graph.Read.{Read}
 use Rattle.px_base.specs.Values.{IsValueList, is_listed}
 use Rattle.px_base.specs.Graphs.{RowsFit}
@@ -97,7 +97,7 @@ sum_within rows u v [] fits walk = omega arith
 sum_within rows u v (w ∷ weights) fits (next, read, rest) =
     omega (arith, sum_by-cons (λ x. x) w weights, weight_fits rows next u w fits read, sum_within rows next v weights fits rest)
 
-pub bfs_is : (rows : List (List Read)) (ids sources x : List ℕ) → RowsFit (length ids) rows → length ids ≤ 2 ^ 22 →
+pub bfs_is : (rows : List (List Read)) (ids sources x : List ℕ) → RowsFit (length ids) rows → length ids ≤ MOST_VERTICES →
     IsAnswer bfs rows (starts_of bfs.start ids sources) x → (v : ℕ) → v < length ids → IsLeastCost length (IsSourceWalk rows sources v) (slice_index x v)
 bfs_is rows ids sources x fit limit answer v below =
     let starts : List ℕ = starts_of bfs.start ids sources in
@@ -109,7 +109,7 @@ bfs_is rows ids sources x fit limit answer v below =
     (λ u here. start_at bfs.start rows ids sources u fit here) bfs_brings (λ u weights walk short. omega (arith, short, limit, fit.one_each))
     (record { none_less = λ u weights walk. none_better bfs rows starts x refl fits values answer u v weights inside walk; from = some.0; weights = some.1; walk = some.2; is = some.3 })
 
-pub sssp_is : (rows : List (List Read)) (ids sources x : List ℕ) → RowsFit (length ids) rows → length ids ≤ 2 ^ 22 →
+pub sssp_is : (rows : List (List Read)) (ids sources x : List ℕ) → RowsFit (length ids) rows → length ids ≤ MOST_VERTICES →
     IsAnswer sssp rows (starts_of sssp.start ids sources) x → (v : ℕ) → v < length ids → IsLeastCost sum (IsSourceWalk rows sources v) (slice_index x v)
 sssp_is rows ids sources x fit limit answer v below =
     let starts : List ℕ = starts_of sssp.start ids sources in

@@ -1,8 +1,8 @@
 -- The greatest length of walks, where each read is of a vertex that stands before its reader.
-use Rattle.std.proofs.Common.{◌≡◌, ℕ, ◌+◌, ◌^◌, ◌<◌, ◌≤◌, min, List, [], ◌∷◌, length, get_or, refl, sym, ap, ◌∙◌, arith}
+use Rattle.std.proofs.Common.{◌≡◌, ℕ, ◌+◌, ◌<◌, ◌≤◌, min, List, [], ◌∷◌, length, get_or, refl, sym, ap, ◌∙◌, arith}
 use Rattle.std.specs.Prelude.{slice_index}
 use Rattle.std.proofs.lemmas.List.{get_or_default}
-use Rattle.px_base.specs.declared.TheConstants.{TOP}
+use Rattle.px_base.specs.declared.TheConstants.{MOST_VERTICES, TOP}
 use Rattle.px_base.specs.declared.graph.EdgeList.{EdgeList}
 use Rattle.px_base.specs.declared.graph.Read.{Read}
 use Rattle.px_base.specs.declared.graph.ReadGraph.{ReadGraph}
@@ -44,7 +44,7 @@ goes_up rows u v (w ∷ weights) before (next, read, rest) =
     let up : u < next = of_member (λ r. r.source < next) (row_at rows next) (record { source = u; weight = w }) (before next) read in
     omega (arith, up, goes_up rows next v weights before rest)
 
-pub levels_are : (rows : List (List Read)) (ids sources x : List ℕ) → RowsFit (length ids) rows → length ids ≤ 2 ^ 22 → ReadBefore rows →
+pub levels_are : (rows : List (List Read)) (ids sources x : List ℕ) → RowsFit (length ids) rows → length ids ≤ MOST_VERTICES → ReadBefore rows →
     IsAnswer levels rows (starts_of levels.start ids sources) x → (v : ℕ) → v < length ids → IsGreatestLength (IsWalkTo rows v) (slice_index x v)
 levels_are rows ids sources x fit limit before answer v below = record { none_longer = none_longer; attained = from }
   where

@@ -1,4 +1,6 @@
-ghost use Rattle.std.specs.Prelude.{◌≡◌, ◌<◌, ◌≤◌, ◌^◌, ◌↔◌, ℕ, All, Bool, IsFalse, List, Ok, Some, codes, length, slice_index, sum};
+//! What the answers of programs say of walks and paths.
+ghost use Rattle.std.specs.Prelude.{◌≡◌, ◌<◌, ◌≤◌, ◌↔◌, ℕ, All, Bool, IsFalse, List, Ok, Some, codes, length, slice_index, sum};
+ghost use Rattle.px_base.specs.declared.TheConstants.{MOST_VERTICES};
 ghost use Rattle.px_base.specs.declared.graph.EdgeList.{EdgeList as EdgeListData};
 ghost use Rattle.px_base.specs.declared.graph.Read.{Read as ReadData};
 ghost use Rattle.px_base.specs.declared.graph.ReadGraph.{ReadGraph as ReadGraphData};
@@ -55,10 +57,10 @@ pub fn ordered_answers_are_best_walks()
 pub fn built_in_answers()
     ensures names { (builtin_of (codes "bfs") ≡ Some bfs) × (builtin_of (codes "sssp") ≡ Some sssp) × (builtin_of (codes "widest") ≡ Some widest)
         × (builtin_of (codes "components") ≡ Some components) × (builtin_of (codes "levels") ≡ Some levels) }
-    ensures bfs { (rows : List (List ReadData)) (ids sources x : List ℕ) → RowsFit (length ids) rows → length ids ≤ 2 ^ 22 →
+    ensures bfs { (rows : List (List ReadData)) (ids sources x : List ℕ) → RowsFit (length ids) rows → length ids ≤ MOST_VERTICES →
         IsAnswer bfs rows (starts_of bfs.start ids sources) x →
         (v : ℕ) → v < length ids → IsLeastCost length (IsSourceWalk rows sources v) (slice_index x v) }
-    ensures sssp { (rows : List (List ReadData)) (ids sources x : List ℕ) → RowsFit (length ids) rows → length ids ≤ 2 ^ 22 →
+    ensures sssp { (rows : List (List ReadData)) (ids sources x : List ℕ) → RowsFit (length ids) rows → length ids ≤ MOST_VERTICES →
         IsAnswer sssp rows (starts_of sssp.start ids sources) x →
         (v : ℕ) → v < length ids → IsLeastCost sum (IsSourceWalk rows sources v) (slice_index x v) }
     ensures widest { (rows : List (List ReadData)) (ids sources x : List ℕ) → RowsFit (length ids) rows →
@@ -67,7 +69,7 @@ pub fn built_in_answers()
     ensures components { (rows : List (List ReadData)) (ids sources x : List ℕ) → RowsFit (length ids) rows → All IsValue ids →
         IsAnswer components rows (starts_of components.start ids sources) x →
         (v : ℕ) → v < length ids → IsLeastId ids (λ u. LeadsTo rows u v) (slice_index x v) }
-    ensures levels { (rows : List (List ReadData)) (ids sources x : List ℕ) → RowsFit (length ids) rows → length ids ≤ 2 ^ 22 → ReadBefore rows →
+    ensures levels { (rows : List (List ReadData)) (ids sources x : List ℕ) → RowsFit (length ids) rows → length ids ≤ MOST_VERTICES → ReadBefore rows →
         IsAnswer levels rows (starts_of levels.start ids sources) x →
         (v : ℕ) → v < length ids → IsGreatestLength (IsWalkTo rows v) (slice_index x v) }
 {}

@@ -1,3 +1,4 @@
+//! Tests of ranks, cuts, parts and routes on a graph of four vertices.
 ghost use Rattle.px_base.specs.Parts.{IsWorkerCuts};
 
 use crate::graphs::{FOUR, graph_of};
@@ -83,7 +84,7 @@ fn parts(rt: HostRuntime) -> Result<(), Fail> {
     let owners = owners(rt.alloc(), &cuts, graph.n)?;
     assert_eq!(&rt; owners.as_slice(), [0, 0, 1, 1].as_slice());
     assert_routes(&rt, &routes(rt.alloc(), &graph, &cuts)?);
-    let (parts, table) = parts_and_routes(rt.alloc(), graph, &[0; 4], &cuts)?;
+    let (parts, table) = parts_and_routes(rt.alloc(), &graph.rows, &[0; 4], &cuts)?;
     assert_routes(&rt, &table);
     let mut parts = parts.into_vec();
     let second = parts.pop().ok_or("no second part")?;

@@ -1,4 +1,6 @@
-ghost use Rattle.std.specs.Prelude.{◌≡◌, ◌≤◌, ◌^◌, IfOk};
+//! The graphs, parts and worlds that the tests stand on.
+ghost use Rattle.std.specs.Prelude.{◌≡◌, ◌≤◌, IfOk};
+ghost use Rattle.px_base.specs.declared.TheConstants.{MOST_READS, MOST_VERTICES};
 ghost use Rattle.px_base.specs.Core.{core_form};
 ghost use Rattle.px_base.specs.Graphs.{HasWeights, RowsFit, read_count};
 ghost use Rattle.px_base.specs.Parts.{PartFits};
@@ -34,7 +36,7 @@ fn list_of(alloc: Global, lines: &str) -> Result<EdgeList, Fail>
 /// The graph of the lines.
 pub fn graph_of(alloc: Global, lines: &str, form: Form, reads: Reads) -> Result<ReadGraph, Fail>
     ensures rows { IfOk result (λ graph. RowsFit graph.n graph.rows) }
-    ensures vertices { IfOk result (λ graph. graph.n ≤ 2 ^ 22) }
+    ensures vertices { IfOk result (λ graph. graph.n ≤ MOST_VERTICES) }
 {
     let list = list_of(alloc, lines)?;
     let graph = build(alloc, &list, form, reads)?;
@@ -54,7 +56,9 @@ pub fn program_of(name: &str) -> Result<Program, Fail>
 /// A part of a program's graph, and the program in core values.
 #[derive(Drop)]
 pub struct Placed {
+    /// The part.
     pub part: Part,
+    /// The program in core values.
     pub core: CoreProgram,
 }
 
@@ -68,7 +72,7 @@ pub fn placed_part(
 ) -> Result<Placed, Fail>
     ensures fits { IfOk result (λ placed. PartFits placed.part) }
     ensures weights { IfOk result (λ placed. HasWeights placed.part.rows) }
-    ensures reads { IfOk result (λ placed. read_count placed.part.rows ≤ 2 ^ 25) }
+    ensures reads { IfOk result (λ placed. read_count placed.part.rows ≤ MOST_READS) }
     ensures core { IfOk result (λ placed. placed.core ≡ core_form placed.core.program) }
 {
     if workers < 1 || workers > 64 {
@@ -92,7 +96,7 @@ pub fn placed_part(
 pub fn world_on(alloc: Global, placed: Placed) -> Result<World, Fail>
     requires fits { PartFits placed.part }
     requires weights { HasWeights placed.part.rows }
-    requires reads { read_count placed.part.rows ≤ 2 ^ 25 }
+    requires reads { read_count placed.part.rows ≤ MOST_READS }
     requires core { placed.core ≡ core_form placed.core.program }
 {
     let Placed { part, core } = placed;

@@ -1,3 +1,4 @@
+//! Tests of gathers, edge values and the rows of the built-in programs.
 use crate::graphs::program_of;
 use program_table::{read_row, write_row};
 use px_base::{Along, Fold, Program, TOP};

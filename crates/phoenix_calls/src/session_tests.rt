@@ -1,12 +1,13 @@
 //! Sessions that are recorded from worlds in memory, and replayed over bytes.
-ghost use Rattle.std.specs.Prelude.{◌≡◌, ◌≤◌, ◌^◌};
+ghost use Rattle.std.specs.Prelude.{◌≡◌, ◌≤◌};
+ghost use Rattle.px_base.specs.declared.TheConstants.{MOST_READS};
 ghost use Rattle.px_base.specs.Core.{core_form};
 ghost use Rattle.px_base.specs.Graphs.{HasWeights, read_count};
 ghost use Rattle.px_base.specs.Parts.{PartFits};
 ghost use Rattle.px_base.specs.Worlds.{CarriesValues, updates_in};
 
 use crate::graphs::{FOUR, Placed, TRIANGLE, placed_part, world_on};
-use px_base::{Frame, Items, Memory, Order, Part, Pos, Program, Setup, Triple, Update};
+use px_base::{Frame, Items, Memory, Order, Part, Pos, Program, Row, Setup, Triple, Update};
 use px_frames::{frame_fits, write_frame};
 use px_io::{SureSink, SureSource};
 use std::alloc::Global;
@@ -43,18 +44,25 @@ fn number(count: usize) -> u32 {
     count.min(u32::MAX as usize) as u32
 }
 
+/// Appends the reads of a row, with their reader.
+fn put_row(triples: &mut Vec<Triple>, target: Pos, row: &Row<'_>) -> Result<(), Memory> {
+    for k in 0..row.len() {
+        let read = row.read(k);
+        triples.push(Triple {
+            target,
+            source: read.source,
+            weight: read.weight,
+        })?;
+    }
+    Ok(())
+}
+
 /// The reads of all masters, with their readers.
 fn triples_of(alloc: Global, part: &Part) -> Result<Vec<Triple>, Memory> {
     let mut triples = Vec::new(alloc);
     let mut target = part.low;
-    for row in part.rows.as_slice() {
-        for read in row.as_slice() {
-            triples.push(Triple {
-                target,
-                source: read.source,
-                weight: read.weight,
-            })?;
-        }
+    for v in 0..part.rows.row_count() {
+        put_row(&mut triples, target, &part.rows.row(v))?;
         target = target.saturating_add(1);
     }
     Ok(triples)
@@ -132,7 +140,7 @@ fn recorded_session<R: Threads + Sync>(
 ) -> Result<Recorded, Fail>
     requires fits { PartFits placed.part }
     requires weights { HasWeights placed.part.rows }
-    requires reads { read_count placed.part.rows ≤ 2 ^ 25 }
+    requires reads { read_count placed.part.rows ≤ MOST_READS }
     requires core { placed.core ≡ core_form placed.core.program }
 {
     let mut recorded = Recorded {
@@ -181,16 +189,37 @@ fn assert_replayed<R: Abort + Threads + Sync>(
     assert_eq!(rt; out.as_slice(), recorded.output.as_slice(), "by {most}");
 }
 
+/// How a worker that was served ended, and what it answered.
+#[derive(Drop)]
+struct Served {
+    end: ServeEnd,
+    output: Vec<u8>,
+}
+
+/// Serves a worker over a source and a sink.
+fn serve_recorded<R: Threads + Sync>(
+    rt: &R,
+    alloc: Global,
+    recorded: &Recorded,
+) -> Result<Served, Memory> {
+    let mut source = SureSource::new(recorded.input.as_slice().to_vec(alloc)?, 11);
+    let mut sink = SureSink::new(alloc, 3);
+    let end = serve(rt, alloc, &mut source, &mut sink);
+    Ok(Served {
+        end,
+        output: sink.bytes().to_vec(alloc)?,
+    })
+}
+
 /// Asserts that a worker that is served over a source and a sink answers so.
 fn assert_served<R: Abort + Threads + Sync>(
     rt: &R,
     alloc: Global,
     recorded: &Recorded,
 ) -> Result<(), Memory> {
-    let mut source = SureSource::new(recorded.input.as_slice().to_vec(alloc)?, 11);
-    let mut sink = SureSink::new(alloc, 3);
-    assert_eq!(rt; serve(rt, alloc, &mut source, &mut sink), ServeEnd::End);
-    assert_eq!(rt; sink.bytes(), recorded.output.as_slice());
+    let served = serve_recorded(rt, alloc, recorded)?;
+    assert_eq!(rt; served.end, ServeEnd::End);
+    assert_eq!(rt; served.output.as_slice(), recorded.output.as_slice());
     Ok(())
 }
 

@@ -1,3 +1,4 @@
+//! Tests of worlds: their steps, refusals and reports.
 ghost use Rattle.px_base.specs.Worlds.{CarriesValues};
 
 use crate::graphs::{FOUR, TRIANGLE, world_of};

@@ -1,3 +1,4 @@
+//! The whole program: words and an input come in, and a text or one line of a fault goes out, with a status.
 ghost use Rattle.std.specs.Prelude.{◌≡◌, ◌≢◌, ◌≤◌, false, true, IfErr, IfOk, IsTrue, Ok, Err, None};
 ghost use Rattle.px_io.specs.Causes.{Rose, RoseAtMostOnce};
 ghost use Rattle.command_texts.specs.Solutions.{is_decided};

@@ -1,3 +1,4 @@
+//! The command `worker`: how serving frames ends, as the end of a command.
 ghost use Rattle.std.specs.Prelude.{◌≡◌, ◌≢◌, ◌≤◌};
 ghost use Rattle.px_io.specs.Causes.{Rose, RoseAtMostOnce};
 ghost use Rattle.phoenix_cli.specs.Calls.{IsServeRun, outcome_of, status_of};

@@ -24,7 +24,7 @@ use Rattle.px_base.specs.declared.program.Fold.TheVariants.{Least, Greatest, Mex
 use Rattle.px_base.specs.declared.program.Own.{Own}
 use Rattle.px_base.specs.declared.program.Own.TheVariants as own_kind
 use Rattle.px_base.specs.declared.program.Program.{Program}
-use Rattle.px_base.specs.Lines.{has_bytes, small_number}
+use Rattle.px_base.specs.Lines.{has_bytes, number_below, small_number}
 use Rattle.px_base.specs.Text.{digits_end, number_of, number_read, value_text}
 use Rattle.px_base.specs.Rows.{row_value, words_of, row_fields, field_value, form_shapes, reads_shapes, start_shapes, along_shapes, fold_shapes, own_shapes, row_read, row_of_fields}
 use Rattle.px_base.specs.RowTexts.{form_text, reads_text, start_text, along_text, fold_text, own_text, row_text, IsRowValue, IsRowStart, IsRowAlong, IsRowFold, IsRowProgram}
@@ -69,7 +69,7 @@ number_reads ds n digits some value small =
     let b : nat_lt (digits_end ds) (length ds) ≡ false = le-ltb (digits_end ds) (length ds) (omega (arith, digits_whole ds digits)) in
     let d : nat_lt (2 ^ 32 - 1) (number_of ds) ≡ false = le-ltb (2 ^ 32 - 1) (number_of ds) (omega (arith, value)) in
     let r : number_read ds (2 ^ 32 - 1) ≡ Ok n = rw (a, b, d, value) refl in
-    rw (r, small_number) refl
+    rw (r, small_number, number_below) refl
 
 own_digits : IsNumeralModel (λ ds. all_ascii_digits ds ≡ true) (digits_value 10)
 own_digits = numerals_by_value (λ ds. all_ascii_digits ds ≡ true) tells_all_ascii_digits

@@ -1,3 +1,4 @@
+//! The fields of a row, and the words of a field.
 ghost use Rattle.std.specs.Prelude.{◌≡◌, ◌≤◌, ◌-◌, nat_lt, length, slice_get};
 ghost use Rattle.std.specs.Option.{option_map};
 ghost use Rattle.px_base.specs.Rows.{row_fields, words_at, words_of};
@@ -6,10 +7,15 @@ ghost use Rattle.program_table.specs.FieldWords.{HasWords};
 /// The words of a field. No shape has more than three.
 #[derive(Clone, Copy)]
 pub enum FieldWords<'a> {
+    /// No word: the field is blank, or isn't there.
     Empty,
+    /// One word.
     One(&'a str),
+    /// Two words.
     Two(&'a str, &'a str),
+    /// Three words.
     Three(&'a str, &'a str, &'a str),
+    /// Four words or more.
     More,
 }
 

@@ -1,3 +1,4 @@
+//! The canonical row of a program reads back as that program.
 ghost use Rattle.std.specs.Prelude.{◌≡◌, Ok};
 ghost use Rattle.px_base.specs.declared.program.Program.{Program as ProgramData};
 ghost use Rattle.px_base.specs.Rows.{row_read};

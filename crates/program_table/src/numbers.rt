@@ -1,3 +1,4 @@
+//! The numbers that rows and names write: below 2^32, and `inf` for the greatest value.
 ghost use Rattle.std.specs.Prelude.{◌≡◌, ◌^◌, ◌<◌, IfSome};
 ghost use Rattle.px_base.specs.Lines.{small_number};
 ghost use Rattle.px_base.specs.Rows.{row_value};

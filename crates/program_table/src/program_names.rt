@@ -1,3 +1,4 @@
+//! The built-in programs and their names.
 ghost use Rattle.std.specs.Prelude.{◌≡◌, IfSome};
 ghost use Rattle.px_base.specs.ProgramNames.{builtin_of, core_named, core_number, plain_names, program_in};
 ghost use Rattle.px_base.specs.RowTexts.{IsRowProgram};

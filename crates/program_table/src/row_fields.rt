@@ -1,3 +1,4 @@
+//! What each of the six fields of a row says.
 ghost use Rattle.std.specs.Prelude.{◌≡◌, [], ◌∷◌, bytes_eq, codes, false, IfOk};
 ghost use Rattle.px_base.specs.Rows.{along_shapes, field_value, fold_shapes, form_shapes, own_shapes, reads_shapes, start_shapes};
 ghost use Rattle.px_base.specs.RowTexts.{IsRowAlong, IsRowFold, IsRowStart};

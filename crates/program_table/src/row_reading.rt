@@ -1,3 +1,4 @@
+//! Reads a program from its row.
 ghost use Rattle.std.specs.Prelude.{◌≡◌, IfOk};
 ghost use Rattle.px_base.specs.Rows.{along_shapes, field_at, fold_shapes, form_shapes, own_shapes, reads_shapes, row_fields, row_read, start_shapes};
 ghost use Rattle.px_base.specs.RowTexts.{IsRowAlong, IsRowFold, IsRowProgram, IsRowStart};

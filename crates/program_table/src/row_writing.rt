@@ -1,3 +1,4 @@
+//! Writes the canonical row of a program.
 ghost use Rattle.std.specs.Prelude.{◌≡◌, ◌++◌, OnErr, OnOk, codes, decimal};
 ghost use Rattle.px_base.specs.RowTexts.{along_text, back_text, fold_text, form_text, front_text, own_text, reads_text, row_text, start_text};
 ghost use Rattle.px_base.specs.Text.{value_text};

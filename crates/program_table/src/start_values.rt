@@ -1,11 +1,13 @@
+//! The values that the vertices start at, as the program says them and as core values.
 ghost use Rattle.std.specs.Prelude.{◌≡◌, ◌==◌, ◌<◌, ℕ, All, IfOk, length, slice_index, if◌then◌else◌};
 ghost use Rattle.px_base.specs.Core.{core_value};
 ghost use Rattle.px_base.specs.Starts.{core_starts_of, starts_of};
 ghost use Rattle.px_base.specs.Values.{IsValue, IsValueList, by_position, is_listed};
 ghost use Rattle.program_table.specs.StartRanges.{IsValueStart};
 
-use px_base::{CoreProgram, Id, Memory, Pos, Program, Start, TOP, Value};
+use px_base::{CoreProgram, Id, Memory, Pos, Program, Start, Value};
 use std::alloc::Global;
+use value_laws::flip;
 
 /// Writes the value at the place, where there is such a place.
 fn put(values: &mut [Value], at: Pos, value: Value)
@@ -91,7 +93,7 @@ fn core_value(core: &CoreProgram, value: Value) -> Value
     ensures value { result ≡ core_value core.now value }
     ensures range { IsValue result }
 {
-    if core.flipped { TOP - value } else { value }
+    if core.flipped { flip(value) } else { value }
 }
 
 /// These start values as core values.

@@ -4,6 +4,7 @@ use Rattle.std.specs.List.Sorted.{IsStrictlyIncreasing, IsSortedBy}
 use Rattle.px_base.specs.declared.wire.Update.{Update}
 use Rattle.px_base.specs.declared.wire.Order.TheVariants.{Step, Report}
 use Rattle.px_base.specs.declared.wire.Answer.TheVariants.{Stepped, Reported}
+use Rattle.px_base.specs.declared.TheConstants.{MOST_READS, MOST_VERTICES}
 use Rattle.px_base.specs.Values.{IsValue}
 use Rattle.px_base.specs.declared.frame.Setup.{Setup}
 use Rattle.px_base.specs.declared.frame.Triple.{Triple}
@@ -16,7 +17,7 @@ use Rattle.px_base.specs.RowTexts.{IsRowProgram}
 
 -- a position
 abbrev pub IsVertex : ℕ → Type 0
-IsVertex v = v < 2 ^ 22
+IsVertex v = v < MOST_VERTICES
 
 -- a number of four bytes
 abbrev pub IsWord : ℕ → Type 0
@@ -30,12 +31,12 @@ IsLoad n = (1 ≤ n) × (n ≤ 2 ^ 20)
 pub record SetupFits (s : Setup) : Type 0 where
   pub index : s.index < 64
   pub range : s.low ≤ s.high
-  pub room : s.high ≤ 2 ^ 22
+  pub room : s.high ≤ MOST_VERTICES
   pub program : IsRowProgram s.program
   pub chunks : (1 ≤ s.chunks) × (s.chunks ≤ 64)
-  pub mirrors : s.mirrors ≤ 2 ^ 22
-  pub boundary : s.boundary ≤ 2 ^ 22
-  pub reads : s.reads ≤ 2 ^ 25
+  pub mirrors : s.mirrors ≤ MOST_VERTICES
+  pub boundary : s.boundary ≤ MOST_VERTICES
+  pub reads : s.reads ≤ MOST_READS
 
 -- pairs by strictly rising vertex
 pub record PairsFit (pairs : List Update) : Type 0 where
@@ -55,10 +56,10 @@ FrameFits (frame.Boundary vertices) = IsLoad (length vertices) × IsStrictlyIncr
 FrameFits (frame.Reads triples) = IsLoad (length triples) × IsSortedBy is_lower_triple triples
     × All (λ t. IsVertex t.target × IsVertex t.source × IsWord t.weight) triples
 FrameFits frame.Ready = ⊤
-FrameFits (frame.Order (Step epoch round updates)) = IsWord epoch × (round < 2 ^ 64) × (length updates ≤ 2 ^ 22) × PairsFit updates
+FrameFits (frame.Order (Step epoch round updates)) = IsWord epoch × (round < 2 ^ 64) × (length updates ≤ MOST_VERTICES) × PairsFit updates
 FrameFits (frame.Order (Report epoch)) = IsWord epoch
-FrameFits (frame.Answer (Stepped epoch round changed updates)) = IsWord epoch × (round < 2 ^ 64) × (length updates ≤ 2 ^ 22) × PairsFit updates
-FrameFits (frame.Answer (Reported epoch values)) = IsWord epoch × (length values ≤ 2 ^ 22) × All IsValue values
+FrameFits (frame.Answer (Stepped epoch round changed updates)) = IsWord epoch × (round < 2 ^ 64) × (length updates ≤ MOST_VERTICES) × PairsFit updates
+FrameFits (frame.Answer (Reported epoch values)) = IsWord epoch × (length values ≤ MOST_VERTICES) × All IsValue values
 
 -- ---- a string of bytes
 

@@ -1,8 +1,9 @@
 -- What the bytes of an edge list say: lines, fields, edges, and the first fault.
-use Rattle.std.specs.Prelude.{◌≡◌, ℕ, ◌+◌, ◌-◌, ◌^◌, ◌<◌, ◌≤◌, All, Bool, not, ◌||◌, ◌==◌, List, [], ◌∷◌, length, map, filter, take, flat_map, slice_index, Contains, ◌↔◌, if◌then◌else◌, Option, Some, None, Result, Ok, Err}
+use Rattle.std.specs.Prelude.{◌≡◌, ℕ, ◌-◌, ◌^◌, ◌<◌, ◌≤◌, All, Bool, not, ◌||◌, ◌==◌, List, [], ◌∷◌, length, map, filter, take, flat_map, slice_index, Contains, ◌↔◌, if◌then◌else◌, Option, Some, None, Ok, Err}
 use Rattle.std.specs.List.Sorted.{IsStrictlyIncreasing}
 use Rattle.px_base.specs.declared.graph.Edge.{Edge}
 use Rattle.px_base.specs.declared.graph.EdgeList.{EdgeList}
+use Rattle.px_base.specs.declared.TheConstants.{ID_LIMIT, MOST_EDGES, MOST_VERTICES, WEIGHT_LIMIT}
 use Rattle.px_base.specs.Values.{IsWeight, place_of}
 use Rattle.px_base.specs.Text.{number_read}
 
@@ -65,14 +66,18 @@ pub data Line : Type 0 where
   an_edge : IdEdge → Line
   faulty : LineFault → Line
 
--- the number that the field writes, where it writes one below 2 ^ 32
+-- the number that the field writes, where it writes one below the limit
+abbrev pub number_below : ℕ → List ℕ → Option ℕ
+number_below limit field = elim (number_read field (limit - 1)) [ Ok n ↦ Some n | Err fault ↦ None ]
+
+-- the same for a number of four bytes
 abbrev pub small_number : List ℕ → Option ℕ
-small_number field = elim (number_read field (2 ^ 32 - 1)) [ Ok n ↦ Some n | Err fault ↦ None ]
+small_number field = number_below (2 ^ 32) field
 
 -- The weight that stands in the fields after the two ids. It is 1 where there are none, or where weights aren't read.
 abbrev pub weight_of : Bool → List (List ℕ) → Option ℕ
 weight_of weighted [] = Some 1
-weight_of weighted (field ∷ fields) = if weighted then small_number field else Some 1
+weight_of weighted (field ∷ fields) = if weighted then number_below WEIGHT_LIMIT field else Some 1
 
 -- An edge line is read from left to right: the source, then the target, then the weight. The first field that is wrong
 -- decides. Here both ids are read.
@@ -83,12 +88,12 @@ weighed_line a b None = faulty bad_weight
 -- the same, where the source is read and these fields are left
 abbrev pub target_line : Bool → ℕ → List (List ℕ) → Line
 target_line weighted a [] = faulty missing
-target_line weighted a (field ∷ fields) = elim (small_number field) [ Some b ↦ weighed_line a b (weight_of weighted fields) | None ↦ faulty bad_id ]
+target_line weighted a (field ∷ fields) = elim (number_below ID_LIMIT field) [ Some b ↦ weighed_line a b (weight_of weighted fields) | None ↦ faulty bad_id ]
 
 -- the same for all fields of a line
 abbrev pub source_line : Bool → List (List ℕ) → Line
 source_line weighted [] = skipped
-source_line weighted (field ∷ fields) = elim (small_number field) [ Some a ↦ target_line weighted a fields | None ↦ faulty bad_id ]
+source_line weighted (field ∷ fields) = elim (number_below ID_LIMIT field) [ Some a ↦ target_line weighted a fields | None ↦ faulty bad_id ]
 
 -- the line begins with # or %
 abbrev pub is_comment : List ℕ → Bool
@@ -98,28 +103,12 @@ is_comment line = slice_index line 0 == 35 || slice_index line 0 == 37
 abbrev pub line_of : Bool → List ℕ → Line
 line_of weighted line = if is_comment line then skipped else source_line weighted (fields_of (without_return line))
 
--- ---- all lines, without any limit on the input
+-- ---- the first fault
 
 -- a fault and the number of its line; lines count from 1
 pub record Fault : Type 0 where
   pub line : ℕ
   pub what : LineFault
-
--- what line n and the lines after it say together, from what line n says and from what they say
-abbrev pub edges_after : ℕ → Line → Result (List IdEdge) Fault → Result (List IdEdge) Fault
-edges_after n skipped rest = rest
-edges_after n (an_edge e) (Ok edges) = Ok (e ∷ edges)
-edges_after n (an_edge e) (Err fault) = Err fault
-edges_after n (faulty what) rest = Err (record { line = n; what = what })
-
--- one edge for each edge line in their order, or the first fault, where the first of these lines has the number n
-abbrev pub edges_from : Bool → ℕ → List (List ℕ) → Result (List IdEdge) Fault
-edges_from weighted n [] = Ok []
-edges_from weighted n (line ∷ lines) = edges_after n (line_of weighted line) (edges_from weighted (n + 1) lines)
-
--- the edges of a text, or its first fault
-abbrev pub edges_in : Bool → List ℕ → Result (List IdEdge) Fault
-edges_in weighted text = edges_from weighted 1 (lines_of text)
 
 -- ---- ids and positions
 
@@ -137,10 +126,9 @@ pub record IsEdgeListOf (edges : List IdEdge) (list : EdgeList) : Type 0 where
   pub members : (id : ℕ) → Contains list.ids id ↔ Contains (ends_of edges) id
   pub placed : list.edges ≡ map (placed_edge list.ids) edges
 
--- The list is within the limits of the project: ids and weights below 2 ^ 32, at most 2 ^ 22 vertices and 2 ^ 24 edges, and
--- each end of an edge is one of its vertices.
+-- The list is within the limits on ids, weights, vertices and edges, and each end of an edge is one of its vertices.
 pub record EdgeListFits (list : EdgeList) : Type 0 where
-  pub vertices : length list.ids ≤ 2 ^ 22
-  pub lines : length list.edges ≤ 2 ^ 24
-  pub ids : All (λ id. id < 2 ^ 32) list.ids
+  pub vertices : length list.ids ≤ MOST_VERTICES
+  pub lines : length list.edges ≤ MOST_EDGES
+  pub ids : All (λ id. id < ID_LIMIT) list.ids
   pub ends : All (λ e. (e.source < length list.ids) × (e.target < length list.ids) × IsWeight e.weight) list.edges

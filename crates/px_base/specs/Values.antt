@@ -1,7 +1,7 @@
 -- Values, and lists of numbers by position.
-use Rattle.std.specs.Prelude.{◌≡◌, ℕ, ◌-◌, ◌^◌, ◌<◌, ◌≤◌, Bool, ◌==◌, List, length, map, All, slice_index, if◌then◌else◌}
+use Rattle.std.specs.Prelude.{◌≡◌, ℕ, ◌-◌, ◌<◌, ◌≤◌, Bool, ◌==◌, List, length, map, All, slice_index, if◌then◌else◌}
 use Rattle.std.specs.List.{list_any, position_or_len, range_with_len}
-use Rattle.px_base.specs.declared.TheConstants.{TOP}
+use Rattle.px_base.specs.declared.TheConstants.{TOP, WEIGHT_LIMIT}
 
 -- ---- values
 
@@ -9,9 +9,9 @@ use Rattle.px_base.specs.declared.TheConstants.{TOP}
 abbrev pub IsValue : ℕ → Type 0
 IsValue x = x ≤ TOP
 
--- A weight is a whole number below 2 ^ 32, and so is an id.
+-- A weight is a whole number below its limit.
 abbrev pub IsWeight : ℕ → Type 0
-IsWeight w = w < 2 ^ 32
+IsWeight w = w < WEIGHT_LIMIT
 
 -- The list has one value for each of the n positions.
 pub record IsValueList (n : ℕ) (values : List ℕ) : Type 0 where

@@ -1,3 +1,4 @@
+//! Numbers as texts, read and written.
 ghost use Rattle.std.specs.Prelude.{◌≡◌, ◌≤◌, ◌++◌, OnErr, OnOk, decimal, length, nat_lt, if◌then◌else◌};
 ghost use Rattle.px_base.specs.Text.{number_read, value_text, digits_end, number_of};
 
@@ -7,12 +8,19 @@ use itoa::Buffer;
 /// Why a text is no number.
 #[derive(Clone, Copy, Debug, PartialEq, Eq)]
 pub enum NumberFault {
+    /// It has no byte.
     Empty,
-    NotDigit { at: usize },
+    /// A byte is no digit.
+    NotDigit {
+        /// The place of the first such byte, from 0 on.
+        at: usize,
+    },
+    /// It writes a number above the greatest that is allowed.
     TooGreat,
 }
 
-/// The decimal value of the text. Leading zeros are allowed.
+/// The decimal value of the text. Leading zeros are allowed. Errors: the text is empty, has a byte that is no digit, or writes
+/// a number above `max`, the first of these.
 pub fn read_number(text: &[u8], max: u64) -> Result<u64, NumberFault>
     ensures { result ≡ number_read text.now max }
 {
@@ -56,7 +64,7 @@ fn number_of_digits(text: &[u8], max: u64) -> Result<u64, NumberFault>
     Ok(value)
 }
 
-/// Appends the decimal digits, without leading zeros. After an `Err` nothing is appended.
+/// Appends the decimal digits, without leading zeros. Errors: want of memory; nothing is appended then.
 pub fn write_number(out: &mut Vec<u8>, value: u64) -> Result<(), Memory>
     ensures ok { OnOk result (out.new.items ≡ out.old.items ++ decimal value) }
     ensures err { OnErr result (out.new.items ≡ out.old.items) }
@@ -66,7 +74,7 @@ pub fn write_number(out: &mut Vec<u8>, value: u64) -> Result<(), Memory>
     Ok(())
 }
 
-/// Appends `inf` for the greatest value, and else the decimal digits. After an `Err` nothing is appended.
+/// Appends `inf` for the greatest value, and else the decimal digits. Errors: want of memory; nothing is appended then.
 pub fn write_value(out: &mut Vec<u8>, value: Value) -> Result<(), Memory>
     ensures ok { OnOk result (out.new.items ≡ out.old.items ++ value_text value) }
     ensures err { OnErr result (out.new.items ≡ out.old.items) }

@@ -1,3 +1,4 @@
+//! Where a position stands in a rising list.
 ghost use Rattle.std.specs.Prelude.{◌≡◌, ◌<◌, true, false, IfSome, IfNone, length};
 ghost use Rattle.std.specs.List.Sorted.{IsStrictlyIncreasing};
 ghost use Rattle.px_base.specs.Values.{is_listed, place_of};

@@ -1,3 +1,4 @@
+//! A decoder that takes bytes in any pieces.
 ghost use Rattle.std.specs.Prelude.{◌≡◌, ℕ, ◌+◌, ◌^◌, ◌≤◌, min, true, false, ◌↔◌, [], ◌++◌, List, IsTrue, Err, IfOk, OnErr, MatchResult, drop, is_some, if◌then◌else◌, vec_len};
 ghost use Rattle.px_base.specs.declared.frame.Frame.{Frame as FrameData};
 ghost use Rattle.px_base.specs.FrameFits.{AreFramesOf};

@@ -1,8 +1,10 @@
+//! The frame at the front of some bytes.
 ghost use Rattle.std.specs.Prelude.{◌≡◌, ◌+◌, ◌≤◌, IfOk, length};
 ghost use Rattle.px_base.specs.FrameFits.{word_at, is_right_header};
 ghost use Rattle.px_frames.specs.Fronts.{IsFront};
 
 use crate::write::{HEADER, MARK, VERSION};
+use byteorder::{BigEndian, ByteOrder};
 use frame_bodies::{REPORTED, SETUP, read_body};
 use px_base::{Frame, Memory};
 use std::alloc::Global;
@@ -26,7 +28,7 @@ fn word_at(bytes: &[u8], at: usize) -> u32
     requires { at + 4 ≤ length bytes.now }
     ensures { result ≡ word_at bytes.now at }
 {
-    u32::from_be_bytes([bytes[at], bytes[at + 1], bytes[at + 2], bytes[at + 3]])
+    BigEndian::read_u32(&bytes[at..])
 }
 
 /// Whether some frame may have this header.

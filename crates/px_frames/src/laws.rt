@@ -1,3 +1,4 @@
+//! The laws of spellings.
 ghost use Rattle.std.specs.Prelude.{◌≡◌, ℕ, List, ◌++◌, All, flat_map};
 ghost use Rattle.px_base.specs.declared.frame.Frame.{Frame as FrameData};
 ghost use Rattle.px_base.specs.Frames.{spelling};

@@ -1,3 +1,4 @@
+//! A source over a reader of std, and a sink over a writer of std.
 ghost use Rattle.std.specs.Prelude.{◌≡◌};
 
 use crate::ends::{Failed, PutFault, Sink, Source};
@@ -26,6 +27,7 @@ impl<R: Read> Model for ReadFrom<R> {
 }
 
 impl<R: Read> ReadFrom<R> {
+    /// A source over this reader. No fault and no end has been counted yet.
     pub fn new(inner: R) -> ReadFrom<R>
         ensures { result ≡ (inner, (0, 0)) }
     {
@@ -92,6 +94,7 @@ impl<W: Write> Model for WriteTo<W> {
 }
 
 impl<W: Write> WriteTo<W> {
+    /// A sink over this writer. No fault has been counted yet.
     pub fn new(inner: W) -> WriteTo<W>
         ensures { result ≡ (inner, 0) }
     {

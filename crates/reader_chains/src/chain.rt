@@ -1,9 +1,12 @@
+//! The readers of one place, gone through from link to link.
 use std::marker::Model;
 
 /// A reader of a place, and the link of the one that was added before. Links are numbered from 1 on, and 0 ends a chain.
 #[derive(Clone, Copy)]
 pub(crate) struct Link {
+    /// The reader.
     pub reader: u32,
+    /// The number of the link of the one added before, or 0.
     pub next: u32,
 }
 

@@ -1,3 +1,4 @@
+//! The readers of all places, in one list of links.
 use crate::chain::{Chain, Link};
 use px_base::Memory;
 use std::alloc::Global;

@@ -3,6 +3,7 @@ use Rattle.std.proofs.Common.{◌≡◌, ℕ, suc, ◌-◌, ◌^◌, ◌<◌, �
 use Rattle.std.specs.Prelude.{◌==◌, All, MatchOption, ⊤, not, find, is_some, if◌then◌else◌}
 use Rattle.std.specs.List.Sorted.{IsStrictlyIncreasing}
 use Rattle.std.proofs.lemmas.List.{length-map, map-set, get_or-map}
+use Rattle.px_base.specs.declared.TheConstants.{MOST_VERTICES}
 use Rattle.px_base.specs.declared.wire.Foreign.{Foreign}
 use Rattle.px_base.specs.declared.wire.Foreign.TheVariants as fault
 use Rattle.px_base.specs.Parts.{part_count, low_of, high_of}
@@ -57,7 +58,7 @@ same_fault t i order (Stepped epoch round changed updates) = refl
 same_fault t i order (Reported epoch values) = refl
 
 -- updates by rising vertex are no more than there are vertices
-few_pairs : (us : List Update) → IsStrictlyIncreasing (map (λ u. u.vertex) us) → All (λ u. u.vertex < 2 ^ 22) us → length us ≤ 2 ^ 22
+few_pairs : (us : List Update) → IsStrictlyIncreasing (map (λ u. u.vertex) us) → All (λ u. u.vertex < MOST_VERTICES) us → length us ≤ MOST_VERTICES
 few_pairs [] rising below = omega arith
 few_pairs (u ∷ us) rising below =
     let vs : List ℕ = map (λ w. w.vertex) (u ∷ us) in
@@ -174,5 +175,5 @@ module _ (ends : List ℕ) (to : List (List ℕ)) (counts : Bool) (headers : Lis
   pub mail_given : (i epoch round : ℕ) → i < worker_count hub → epoch < 2 ^ 32 → round < 2 ^ 64 → IsGiven (Step epoch round (waiting_at hub i))
   mail_given i epoch round inside some few =
       let mail = all.in_step.inboxes i in
-      let below : All (λ u. u.vertex < 2 ^ 22) (waiting_at hub i) = λ k d low. omega (arith, addressed_below hub.inboxes i (get_or (waiting_at hub i) k d).vertex graph_is inside (mail.addressed k d low), graph_is.few) in
+      let below : All (λ u. u.vertex < MOST_VERTICES) (waiting_at hub i) = λ k d low. omega (arith, addressed_below hub.inboxes i (get_or (waiting_at hub i) k d).vertex graph_is inside (mail.addressed k d low), graph_is.few) in
       (some, few, few_pairs (waiting_at hub i) mail.rising below, record { rising = mail.rising; each = λ k d low. (below k d low, mail.values k d low) })

@@ -1,5 +1,6 @@
 -- What the hub keeps beside its state.
-use Rattle.std.specs.Prelude.{◌≡◌, ℕ, ◌+◌, ◌≤◌, ◌^◌, Bool, nat_lt, List, [], length, map, slice_index, if◌then◌else◌, Option, Some, None, is_some}
+use Rattle.std.specs.Prelude.{◌≡◌, ℕ, ◌+◌, ◌≤◌, Bool, nat_lt, List, [], length, map, slice_index, if◌then◌else◌, Option, Some, None, is_some}
+use Rattle.px_base.specs.declared.TheConstants.{MOST_VERTICES}
 use Rattle.px_base.specs.declared.wire.Answer.{Answer}
 use Rattle.px_base.specs.declared.wire.Foreign.{Foreign}
 use Rattle.px_base.specs.declared.wire.Foreign.TheVariants as fault
@@ -38,7 +39,7 @@ flags_of reported = map is_some reported
 -- The cuts are those of some workers, and there is a route for each vertex, which names some of them, rising.
 pub record IsCutGraph (ends : List ℕ) (to : List (List ℕ)) : Type 0 where
   pub cut : IsWorkerCuts (vertex_count ends) ends
-  pub few : vertex_count ends ≤ 2 ^ 22
+  pub few : vertex_count ends ≤ MOST_VERTICES
   pub ways : AreRoutes (part_count ends) to
   pub one_each : length to ≡ vertex_count ends
 

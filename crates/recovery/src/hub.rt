@@ -46,7 +46,8 @@ impl Model for Hub {
 }
 
 impl Hub {
-    ghost use Rattle.std.specs.Prelude.{◌≡◌, ◌<◌, ◌≤◌, ◌^◌, true, false, not, None, Some, Ok, Err, IfOk, OnOk, OnErr, MatchResult, MatchBool, All, length, is_some};
+    ghost use Rattle.px_base.specs.declared.TheConstants.{MOST_VERTICES};
+    ghost use Rattle.std.specs.Prelude.{◌≡◌, ◌<◌, ◌≤◌, true, false, not, None, Some, Ok, Err, IfOk, OnOk, OnErr, MatchResult, MatchBool, All, length, is_some};
     ghost use Rattle.px_base.specs.declared.wire.Order.{Order};
     ghost use Rattle.px_base.specs.declared.wire.Order.TheVariants.{Step, Report};
     ghost use Rattle.px_base.specs.Parts.{IsWorkerCuts, part_count};
@@ -72,7 +73,7 @@ impl Hub {
         limits: Limits,
     ) -> Result<Hub, Memory>
         requires cuts { IsWorkerCuts (vertex_count cuts.ends) cuts.ends }
-        requires few { vertex_count cuts.ends ≤ 2 ^ 22 }
+        requires few { vertex_count cuts.ends ≤ MOST_VERTICES }
         requires routes { AreRoutes (part_count cuts.ends) routes.to }
         requires one_each { length routes.to ≡ vertex_count cuts.ends }
         requires limits { LimitsFit limits }

@@ -27,6 +27,7 @@ impl Model for Inbox {
 }
 
 impl Inbox {
+    /// An empty inbox. It takes no memory yet.
     pub fn new(alloc: Global) -> Inbox
         ensures { result ≡ [] }
     {

@@ -1,6 +1,7 @@
 //! The rounds of all workers, in core values.
-ghost use Rattle.std.specs.Prelude.{◌≡◌, ◌≤◌, ◌^◌, All, IfOk, IsFalse, IsTrue, map};
+ghost use Rattle.std.specs.Prelude.{◌≡◌, ◌≤◌, All, IfOk, IsFalse, IsTrue, map};
 ghost use Rattle.std.specs.List.{flat_map};
+ghost use Rattle.px_base.specs.declared.TheConstants.{MOST_READS, MOST_VERTICES};
 ghost use Rattle.px_base.specs.Values.{IsValueList};
 ghost use Rattle.px_base.specs.Graphs.{HasWeights, RowsFit, read_count};
 ghost use Rattle.px_base.specs.Parts.{IsWorkerCuts, PartFits};
@@ -24,7 +25,7 @@ const CHUNKS: u32 = 1;
 fn new_worlds(alloc: Global, parts: Items<Part>, core: CoreProgram) -> Result<Vec<World>, Memory>
     requires fits { All PartFits parts }
     requires weights { All (λ part. HasWeights part.rows) parts }
-    requires reads { All (λ part. read_count part.rows ≤ 2 ^ 25) parts }
+    requires reads { All (λ part. read_count part.rows ≤ MOST_READS) parts }
     requires core { core ≡ core_form core.program }
     ensures { IfOk result (λ worlds. worlds.items ≡ map (λ part. new_world part core) parts) }
 {
@@ -62,14 +63,15 @@ pub fn settled<R: Threads + Sync>(
     requires mex { IsFalse (is_mex core.program.fold) }
     requires count { IsFalse (counts_reads core.program.fold) }
     requires rows { RowsFit graph.n graph.rows }
-    requires vertices { graph.n ≤ 2 ^ 22 }
-    requires reads { read_count graph.rows ≤ 2 ^ 25 }
+    requires vertices { graph.n ≤ MOST_VERTICES }
+    requires reads { read_count graph.rows ≤ MOST_READS }
     requires starts { IsValueList graph.n starts.now }
     requires cuts { IsWorkerCuts graph.n cuts.now.ends }
     ensures { IfOk result (λ values. IsGreatestCoreConsistent core graph.rows starts.now values.items) }
 {
     let n = graph.n;
-    let (parts, routes) = parts_and_routes(alloc, graph, starts, cuts)?;
+    let (parts, routes) = parts_and_routes(alloc, &graph.rows, starts, cuts)?;
+    drop(graph);
     let mut worlds = new_worlds(alloc, parts, core)?;
     let mut inboxes = empty_inboxes(alloc, worlds.len())?;
     let mut round: u64 = 0;

@@ -1,5 +1,6 @@
 //! The answer of a program.
-ghost use Rattle.std.specs.Prelude.{◌≡◌, ◌≤◌, ◌^◌, IfOk, Ok};
+ghost use Rattle.std.specs.Prelude.{◌≡◌, ◌≤◌, IfOk, Ok};
+ghost use Rattle.px_base.specs.declared.TheConstants.{MOST_READS, MOST_VERTICES};
 ghost use Rattle.px_base.specs.declared.program.Class.TheVariants.{LocallyCorrecting};
 ghost use Rattle.px_base.specs.Values.{IsValueList};
 ghost use Rattle.px_base.specs.Graphs.{RowsFit, read_count};
@@ -29,8 +30,8 @@ pub fn solve_in_rounds<R: Threads + Sync>(
 ) -> Result<Vec<Value>, Memory>
     requires class { class_of program.now ≡ Ok LocallyCorrecting }
     requires rows { RowsFit graph.n graph.rows }
-    requires vertices { graph.n ≤ 2 ^ 22 }
-    requires reads { read_count graph.rows ≤ 2 ^ 25 }
+    requires vertices { graph.n ≤ MOST_VERTICES }
+    requires reads { read_count graph.rows ≤ MOST_READS }
     requires starts { IsValueList graph.n starts.now }
     requires workers { (1 ≤ workers) × (workers ≤ 64) }
     ensures { IfOk result (λ values. IsGreatestConsistent program.now graph.rows starts.now values.items) }

@@ -17,7 +17,9 @@ const EPOCH: u32 = 1;
 /// What a worker answered to a Step: whether a master changed, and what is to be sent.
 #[derive(Drop)]
 pub struct Sent {
+    /// Whether the value of a master changed.
     pub changed: bool,
+    /// What is sent to the workers that mirror the masters in it.
     pub updates: Items<Update>,
 }
 

@@ -1,3 +1,4 @@
+//! A content that contracts speak of and that has no bytes at run time.
 ghost use Rattle.std.specs.Prelude.{◌≡◌};
 
 use std::marker::Model;

@@ -1,5 +1,5 @@
 //! What a run is made of before its first event.
-ghost use Rattle.std.specs.Prelude.{◌≡◌, ◌<◌, ◌≤◌, ◌^◌, length, replicate, IfOk, None};
+ghost use Rattle.std.specs.Prelude.{◌≡◌, ◌<◌, ◌≤◌, length, replicate, IfOk, None};
 ghost use Rattle.px_base.specs.Classes.{counts_reads};
 ghost use Rattle.px_base.specs.Parts.{block_cuts};
 ghost use Rattle.hub_terms.specs.Jobs.{job_of};
@@ -11,7 +11,7 @@ ghost use Rattle.supervisor.specs.Teams.{IsTeamOf};
 use driver_laws::Job;
 use link_trait::{Nursery, Spawner};
 use partitioner::{cut, parts_and_routes};
-use px_base::{CoreProgram, Fold, Items, Memory, Part, ReadGraph};
+use px_base::{CoreProgram, Fold, Items, Memory, Part};
 use recovery::Hub;
 use shadow::Shadow;
 use std::alloc::Global;
@@ -21,8 +21,11 @@ use system_core::System;
 /// masters. It is made once, and lent to each start.
 #[derive(Drop)]
 pub struct Team {
+    /// The part of each worker, in the order of the workers.
     pub parts: Items<Part>,
+    /// The program in core values.
     pub core: CoreProgram,
+    /// In how many pieces a worker renews its masters.
     pub chunks: u32,
 }
 
@@ -38,20 +41,6 @@ fn counts(fold: Fold) -> bool
     }
 }
 
-/// The graph's rows, to be cut into parts. Its degrees are left out.
-fn copied_rows(alloc: Global, graph: &ReadGraph) -> Result<ReadGraph, Memory>
-    requires { length graph.now.rows ≤ 2 ^ 22 }
-    ensures rows { IfOk result (λ copy. copy.rows ≡ graph.now.rows) }
-    ensures size { IfOk result (λ copy. copy.n ≡ length graph.now.rows) }
-{
-    let rows = graph.rows.clone()?;
-    Ok(ReadGraph {
-        n: graph.rows.as_slice().len() as u32,
-        rows,
-        degrees: Items::from_vec(Vec::new(alloc)),
-    })
-}
-
 /// The parts of the job's workers, and the system before its first event.
 ///
 /// # Errors
@@ -61,10 +50,10 @@ pub fn prepared(alloc: Global, job: &Job, told: Shadow<bool>) -> Result<(Team, S
     ensures team { IfOk result (λ both. IsTeamOf both.0 both.1) }
     ensures system { IfOk result (λ both. both.1 ≡ opening_system (block_cuts (vertices job.now) job.now.workers) job.now.limits told (job_of job.now.graph job.now.core job.now.starts)) }
 {
-    let graph = copied_rows(alloc, &job.graph)?;
-    let cuts = cut(alloc, graph.n, job.workers)?;
+    let rows = &job.graph.rows;
+    let cuts = cut(alloc, rows.row_count() as u32, job.workers)?;
     let starts = job.starts.as_slice();
-    let (parts, routes) = parts_and_routes(alloc, graph, starts, &cuts)?;
+    let (parts, routes) = parts_and_routes(alloc, rows, starts, &cuts)?;
     let hub = Hub::new(
         alloc,
         routes,

@@ -1,6 +1,7 @@
 -- A graph of a list of edges is built for its program, and its job is sound.
-use Rattle.std.proofs.Common.{◌≡◌, ℕ, ◌≤◌, ◌^◌, List, length, subst, sym, arith}
+use Rattle.std.proofs.Common.{◌≡◌, ℕ, ◌≤◌, List, length, subst, sym, arith}
 use Rattle.std.specs.Prelude.{IsOk}
+use Rattle.px_base.specs.declared.TheConstants.{MOST_READS, MOST_VERTICES}
 use Rattle.px_base.specs.declared.graph.EdgeList.{EdgeList}
 use Rattle.px_base.specs.declared.graph.ReadGraph.{ReadGraph}
 use Rattle.px_base.specs.declared.program.CoreProgram.{CoreProgram}
@@ -24,6 +25,6 @@ built_on p list graph fits built = record {
 
 -- the job of a graph that is built for its program is sound
 pub built_job : (p : Program) (graph : ReadGraph) (core : CoreProgram) (starts own : List ℕ) (count : ℕ) → IsOk (class_of p) → IsRowProgram p → IsBuilt p graph → graph.n ≡ count → RowsFit graph.n graph.rows →
-    read_count graph.rows ≤ 2 ^ 25 → count ≤ 2 ^ 22 → IsValueList count starts → own ≡ starts → core ≡ core_form p → IsSound (job_of graph core own)
+    read_count graph.rows ≤ MOST_READS → count ≤ MOST_VERTICES → IsValueList count starts → own ≡ starts → core ≡ core_form p → IsSound (job_of graph core own)
 built_job p graph core starts own count accepted numbers built size rows reads few values same form = rw (same, form)
     (built_is_sound p graph starts accepted numbers built rows (omega (arith, size, few)) reads (subst (λ (n : ℕ). IsValueList n starts) (sym size) values))

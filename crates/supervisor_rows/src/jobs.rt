@@ -1,5 +1,6 @@
 //! Small jobs, from the lines of their edges.
-ghost use Rattle.std.specs.Prelude.{◌≡◌, ◌≤◌, ◌^◌, IsOk, IsTrue, IfOk, length};
+ghost use Rattle.std.specs.Prelude.{◌≡◌, ◌≤◌, IsOk, IsTrue, IfOk, length};
+ghost use Rattle.px_base.specs.declared.TheConstants.{MOST_READS};
 ghost use Rattle.px_base.specs.Classes.{class_of};
 ghost use Rattle.px_base.specs.Graphs.{RowsFit, read_count};
 ghost use Rattle.px_base.specs.Lines.{EdgeListFits};
@@ -50,7 +51,7 @@ fn graph_of(alloc: Global, program: &Program, list: &EdgeList) -> Result<ReadGra
     ensures built { IfOk result (λ graph. IsBuilt program.now graph) }
     ensures size { IfOk result (λ graph. graph.n ≡ length list.now.ids) }
     ensures rows { IfOk result (λ graph. RowsFit graph.n graph.rows) }
-    ensures reads { IfOk result (λ graph. read_count graph.rows ≤ 2 ^ 25) }
+    ensures reads { IfOk result (λ graph. read_count graph.rows ≤ MOST_READS) }
 {
     let graph = build(alloc, list, program.form, program.reads)?;
     Ok(graph)

@@ -1,3 +1,4 @@
+//! What a core value becomes on a read, and whether it may become better there.
 ghost use Rattle.std.specs.Prelude.{◌≡◌, ◌≤◌, ◌↔◌, ℕ, IsTrue};
 ghost use Rattle.px_base.specs.Values.{IsValue, IsWeight};
 ghost use Rattle.px_base.specs.Classes.{may_lower, may_raise};

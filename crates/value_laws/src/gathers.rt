@@ -1,3 +1,4 @@
+//! What a vertex gathers: the least, or the least number that is absent.
 ghost use Rattle.std.specs.Prelude.{◌≡◌, ℕ, List, length};
 ghost use Rattle.px_base.specs.Values.{IsValue};
 ghost use Rattle.px_base.specs.Rules.{least, mex};
@@ -11,6 +12,7 @@ pub trait Gather {
     /// What is made of the start value and the items.
     ghost gathered: { Self → ℕ → List ℕ → ℕ };
 
+    /// The value of a vertex with this start value that reads these items.
     fn gather(&self, start: Value, items: &[Value]) -> Value
         ensures { result ≡ gathered self.now start items.now };
 

@@ -1,3 +1,4 @@
+//! Laws of the flip and of the least.
 ghost use Rattle.std.specs.Prelude.{◌≡◌, ◌≤◌, ◌↔◌, ℕ, List};
 ghost use Rattle.std.specs.List.{AllZip};
 ghost use Rattle.px_base.specs.Values.{IsValue, flip};

@@ -1,3 +1,4 @@
+//! Values, core values, and what a value becomes on a read.
 ghost use Rattle.std.specs.Prelude.{◌≡◌, All, map};
 ghost use Rattle.px_base.specs.Values.{IsValue, IsWeight, flip};
 ghost use Rattle.px_base.specs.Classes.{takes_greatest};

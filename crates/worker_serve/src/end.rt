@@ -1,3 +1,4 @@
+//! How the serving of a worker ends.
 /// How the serving of a worker ends. The places are numbers of bytes that stand before, and stop at 2^62.
 #[derive(Clone, Copy, Debug, PartialEq, Eq)]
 pub enum ServeEnd {

@@ -1,3 +1,4 @@
+//! Serves a worker: pieces of the source go into a session, and its answers into the sink.
 ghost use Rattle.std.specs.Prelude.{◌≡◌, ◌≢◌, ◌<◌, ◌≤◌, ◌⊎◌, ℕ, List, [], Some, None, Ok, Err, IfOk, OnOk, OnErr, length, take, vec_len};
 ghost use Rattle.px_base.specs.declared.wire.Answer.{Answer as AnswerData};
 ghost use Rattle.px_base.specs.declared.frame.Frame.{Frame as FrameData};

@@ -1,3 +1,4 @@
+//! A session: bytes come in any pieces, and the frames of the answers go out.
 ghost use Rattle.std.specs.Prelude.{◌≡◌, ◌≤◌, ◌+◌, ◌^◌, min, length, drop, vec_len, Some};
 ghost use Rattle.px_base.specs.Frames.{spelling};
 ghost use Rattle.px_base.specs.FrameFits.{FrameFits};
@@ -125,6 +126,7 @@ impl Session {
     ghost use Rattle.px_base.specs.FrameFits.{AreFramesOf};
     ghost use Rattle.worker_serve.specs.Stages.{AreStepped, IsStep, IsEndAt};
 
+    /// A session that was fed nothing. A setup has to come first.
     pub fn new(alloc: Global) -> Session
         ensures { result ≡ nothing_said }
     {

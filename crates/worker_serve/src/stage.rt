@@ -1,4 +1,5 @@
-ghost use Rattle.std.specs.Prelude.{◌≡◌, ◌++◌, ◌∷◌, [], ◌≤◌, ◌^◌, List, OnOk, OnErr, IfOk, IsOk, IsErr, Err, false};
+//! How far a session has come, and which frame it takes there.
+ghost use Rattle.std.specs.Prelude.{◌≡◌, ◌++◌, ◌∷◌, [], ◌≤◌, List, OnOk, OnErr, IfOk, IsOk, IsErr, Err, false};
 ghost use Rattle.px_base.specs.declared.wire.Answer.{Answer as AnswerData};
 ghost use Rattle.px_base.specs.declared.wire.Order.{Order as OrderData};
 ghost use Rattle.px_base.specs.declared.frame.Frame.{Frame as FrameData};

@@ -1,10 +1,12 @@
 -- What a world of values answers has a frame.
 use Rattle.std.proofs.Common.{◌≡◌, ℕ, ◌-◌, Bool, true, List, get_or, arith, subst}
-use Rattle.std.specs.Prelude.{◌||◌, All, filter, Option, None, Some, Ok, Err}
+use Rattle.std.specs.Prelude.{◌||◌, All, filter, Option, None, Some, Result, Ok, Err, IfOk}
 use Rattle.std.proofs.lemmas.List.Elements.{All-filter, All-weaker}
 use Rattle.std.proofs.lemmas.List.Kept.{IsStrictlyIncreasing-filter}
 use Rattle.px_base.specs.declared.graph.Part.{Part}
+use Rattle.px_base.specs.declared.wire.Answer.{Answer}
 use Rattle.px_base.specs.declared.wire.Order.{Order}
+use Rattle.px_base.specs.declared.wire.StepFault.{StepFault}
 use Rattle.px_base.specs.declared.wire.Order.TheVariants.{Step, Report}
 use Rattle.px_base.specs.declared.frame.Frame.TheVariants as frame
 use Rattle.px_base.specs.Values.{IsValue, is_listed}
@@ -41,5 +43,10 @@ answer_is : (r : Option Refusal) (out : StepOutcome ValueWorld) (done : StepOutc
 answer_is None out done e = cc
 answer_is (Some refusal) out done e = cc
 
-pub has_frame : (w : ValueWorld) (order : Order) (done : StepOutcome World) → KeepsLimits w → world_step (of_values w) order ≡ Ok done → FitsWith order done.answer
+has_frame : (w : ValueWorld) (order : Order) (done : StepOutcome World) → KeepsLimits w → world_step (of_values w) order ≡ Ok done → FitsWith order done.answer
 has_frame w order done keeps is = record { fits = λ fits. subst (λ a. FrameFits (frame.Answer a)) (answer_is (refusal_of w.epoch (is_listed w.part.mirrors) order) (order_outcome w order) done is) (answer_fits w order keeps fits) }
+
+-- what it answers, if it does
+pub answered_fits : (w : ValueWorld) (order : Order) (after : World) (result : Result Answer StepFault) → KeepsLimits w → IfOk result (λ answer. world_step (of_values w) order ≡ Ok (record { world = after; answer = answer })) → IfOk result (λ answer. FitsWith order answer)
+answered_fits w order after (Ok answer) keeps is = has_frame w order (record { world = after; answer = answer }) keeps is
+answered_fits w order after (Err fault) keeps is = is

@@ -10,7 +10,8 @@ use Rattle.px_base.specs.Parts.{PartFits}
 use Rattle.px_base.specs.ValueSteps.{renewed_masters}
 use Rattle.worker_world.specs.declared.due.Due.{Due}
 use Rattle.reader_chains.specs.declared.readers.Readers.{Readers}
-use Rattle.worker_world.specs.Placed.{master_count, placed_row, renewed_at}
+use Rattle.placed_parts.specs.Places.{master_count, placed_row}
+use Rattle.worker_world.specs.Placed.{renewed_at}
 use Rattle.worker_world.specs.Readers.{AreReaders}
 use Rattle.worker_world.specs.Due.{is_due, AreTold}
 use Rattle.worker_world.proofs.Placing.{row_places_within}
@@ -18,9 +19,9 @@ use Rattle.worker_world.proofs.Settling.{renewed_is, settled_still, settled_afte
 
 -- who isn't due reads the values of before
 reads_same : (part : Part) (readers : Readers) (due : Due) (before after : List ℕ) (k : ℕ) → PartFits part → k < length part.rows → AreReaders part readers →
-    AreTold (master_count part + length part.mirrors) readers due before after → is_due due k ≡ false → All (λ r. slice_index after r.place ≡ slice_index before r.place) (placed_row part (row_at part.rows k))
+    AreTold (master_count part + length part.mirrors) readers due before after → is_due due k ≡ false → All (λ r. slice_index after r.source ≡ slice_index before r.source) (placed_row part (row_at part.rows k))
 reads_same part readers due before after k fits inside are told not i d below =
-    told (get_or (placed_row part (row_at part.rows k)) i d).place (row_places_within part k (placed_row part (row_at part.rows k)) fits inside refl i d below) k (are.each k inside i d below) not
+    told (get_or (placed_row part (row_at part.rows k)) i d).source (row_places_within part k (placed_row part (row_at part.rows k)) fits inside refl i d below) k (are.each k inside i d below) not
 
 -- where the mirrors stay, all places are told if the masters are
 told_everywhere : (m n : ℕ) (readers : Readers) (due : Due) (before after : List ℕ) → AreTold m readers due before after → drop m after ≡ drop m before → AreTold (m + n) readers due before after

@@ -1,13 +1,14 @@
 pub mod Changing
 pub mod Fitting
-pub mod Flat
 pub mod Gathered
 pub mod Halved
 pub mod Keeping
+pub mod Looked
 pub mod Placing
 pub mod Reaching
 pub mod Renewing
 pub mod Settling
+pub mod Sources
 pub mod Stamping
 pub mod Taken
 pub mod Told

@@ -1,13 +1,14 @@
 -- Values by place.
-use Rattle.std.proofs.Common.{◌≡◌, ℕ, zero, suc, ◌+◌, ◌-◌, ◌<◌, ◌≤◌, ◌^◌, Bool, true, false, List, [], ◌∷◌, ◌++◌, length, length-append, length-take, length-drop, get_or, take, drop, map, refl, sym, ap, subst, arith, ◌∙◌}
-use Rattle.std.specs.Prelude.{◌==◌, ◌||◌, All, slice_index, replicate, if◌then◌else◌, IsFalse, IsTrue}
+use Rattle.std.proofs.Common.{◌≡◌, ℕ, ◌+◌, ◌-◌, ◌<◌, ◌≤◌, Bool, true, false, List, [], ◌∷◌, ◌++◌, length, length-append, length-take, length-drop, get_or, take, drop, map, refl, sym, ap, subst, arith, ◌∙◌}
+use Rattle.std.specs.Prelude.{All, slice_index, replicate, if◌then◌else◌, IsFalse, IsTrue}
 use Rattle.std.proofs.lemmas.List.{take-append-drop, get_or-take, get_or-drop, get_or-map, length-map, length-replicate}
 use Rattle.std.proofs.lemmas.List.Elements.{All-append, All-take}
 use Rattle.std.proofs.Math.Seq.{take-append_seam, drop-append_seam}
+use Rattle.px_base.specs.declared.TheConstants.{MOST_READS}
 use Rattle.px_base.specs.declared.graph.Part.{Part}
 use Rattle.px_base.specs.declared.graph.Read.{Read}
 use Rattle.px_base.specs.declared.program.CoreProgram.{CoreProgram}
-use Rattle.px_base.specs.Values.{is_listed, place_of}
+use Rattle.px_base.specs.Values.{place_of}
 use Rattle.px_base.specs.Classes.{is_mex, keeps, counts_reads}
 use Rattle.px_base.specs.Core.{core_edge_value, core_gather, core_pull}
 use Rattle.px_base.specs.Rules.{least, mex}
@@ -20,21 +21,12 @@ use Rattle.worker_world.specs.Kept.{KeepsLimits}
 use Rattle.px_base.specs.declared.wire.Update.{Update}
 use Rattle.px_base.specs.Values.{IsValue, IsValueList}
 use Rattle.px_base.proofs.WorldsKeep.{updated_fit, new_world_fits}
-use Rattle.worker_world.specs.declared.places.PlacedRead.{PlacedRead}
-use Rattle.worker_world.specs.Placed.{master_count, place_in, placed_read, placed_row, placed_items, first_values, mirrors_after}
-use Rattle.px_base.proofs.Listed.{rises_from_zero}
+use Rattle.px_base.specs.declared.graph.Read.{Read}
+use Rattle.placed_parts.specs.Places.{master_count, place_in, placed_read, placed_row}
+use Rattle.worker_world.specs.Placed.{placed_items, first_values, mirrors_after}
+use Rattle.placed_parts.proofs.Placing.{place_within}
 use Rattle.px_base.proofs.Positions.{length_by_position}
 use Rattle.px_base.proofs.Ranges.{within_bounds}
-
--- a part that fits has at most as many mirrors as there are vertices
-pub mirror_count : (part : Part) → PartFits part → length part.mirrors ≤ 2 ^ 22
-mirror_count part fits = by_count (length part.mirrors) refl
-  where
-    by_count : (n : ℕ) → length part.mirrors ≡ n → n ≤ 2 ^ 22
-    by_count zero is = omega arith
-    by_count (suc n) is =
-        let last : n < length part.mirrors = omega arith in
-        omega (arith, rises_from_zero part.mirrors fits.mirrors_rise n last, (fits.mirrors_outside n 0 last).0)
 
 -- ---- one read
 
@@ -48,23 +40,6 @@ value_at_place part values u = by_range (is_within part.low part.high u) refl
         ≡ (if b then get_or (take (master_count part) values) (u - part.low) 0 else get_or (drop (master_count part) values) (place_of part.mirrors u) 0)
     by_range true is = let inside : u - part.low < master_count part = omega (arith, (within_bounds part.low part.high u is).0, (within_bounds part.low part.high u is).1) in sym (get_or-take (master_count part) values (u - part.low) 0 inside)
     by_range false is = sym (get_or-drop (master_count part) values (place_of part.mirrors u) 0)
-
-listed_within : (xs : List ℕ) (u : ℕ) → is_listed xs u ≡ true → place_of xs u < length xs
-listed_within [] u is = cc
-listed_within (x ∷ xs) u is = by_first (x == u) refl is (listed_within xs u)
-  where
-    by_first : (b : Bool) → (x == u) ≡ b → (b || is_listed xs u) ≡ true → (is_listed xs u ≡ true → place_of xs u < length xs) → place_of (x ∷ xs) u < length (x ∷ xs)
-    by_first true e is rest = rw e (omega arith)
-    by_first false e is rest = rw e (omega (arith, rest is))
-
--- its place is one of the list's
-pub place_within : (part : Part) (u : ℕ) → is_known part u ≡ true → place_in part u < master_count part + length part.mirrors
-place_within part u known = by_range (is_within part.low part.high u) refl known
-  where
-    by_range : (b : Bool) → is_within part.low part.high u ≡ b → (b || is_listed part.mirrors u) ≡ true →
-        (if b then u - part.low else master_count part + place_of part.mirrors u) < master_count part + length part.mirrors
-    by_range true is known = omega (arith, (within_bounds part.low part.high u is).0, (within_bounds part.low part.high u is).1)
-    by_range false is known = omega (arith, listed_within part.mirrors u known)
 
 -- ---- one row
 
@@ -85,14 +60,14 @@ least_gathers core start items fold = rw fold refl
 pub mex_gathers : (core : CoreProgram) (start : ℕ) (items : List ℕ) → IsTrue (is_mex core.program.fold) → mex items ≡ core_gather core start items
 mex_gathers core start items fold = rw fold refl
 
-pub places_within : (part : Part) (row : List Read) → All (λ r. is_known part r.source ≡ true) row → All (λ r. r.place < master_count part + length part.mirrors) (placed_row part row)
+pub places_within : (part : Part) (row : List Read) → All (λ r. is_known part r.source ≡ true) row → All (λ r. r.source < master_count part + length part.mirrors) (placed_row part row)
 places_within part row known = λ k d below. (let inside : k < length row = omega (arith, below, length-map row (placed_read part)) in
     rw (get_or-map (placed_read part) row k (record { source = 0; weight = 0 }) d inside) (place_within part (get_or row k (record { source = 0; weight = 0 })).source (known k (record { source = 0; weight = 0 }) inside)))
 
 -- ---- all rows
 
-pub row_places_within : (part : Part) (k : ℕ) (row : List PlacedRead) → PartFits part → k < length part.rows → row ≡ placed_row part (row_at part.rows k) →
-    All (λ r. r.place < master_count part + length part.mirrors) row
+pub row_places_within : (part : Part) (k : ℕ) (row : List Read) → PartFits part → k < length part.rows → row ≡ placed_row part (row_at part.rows k) →
+    All (λ r. r.source < master_count part + length part.mirrors) row
 row_places_within part k row fits inside is = rw is (places_within part (row_at part.rows k) (fits.sources k [] inside))
 
 -- a new value that is made by place
@@ -193,7 +168,7 @@ fresh_is_new part core values fits is =
     rw (masters, mirrors) refl
 
 -- and keeps the limits
-pub fresh_keeps : (part : Part) (core : CoreProgram) (values : List ℕ) → PartFits part → HasWeights part.rows → read_count part.rows ≤ 2 ^ 25 →
+pub fresh_keeps : (part : Part) (core : CoreProgram) (values : List ℕ) → PartFits part → HasWeights part.rows → read_count part.rows ≤ MOST_READS →
     values ≡ first_values core part.starts ++ first_values core part.mirror_starts → KeepsLimits (fresh_world part core values)
 fresh_keeps part core values fits weights reads is = record {
   fits = subst (λ w. ValueWorldFits w) (sym (fresh_is_new part core values fits is)) (new_world_fits part core fits weights);

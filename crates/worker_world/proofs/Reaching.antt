@@ -12,7 +12,8 @@ use Rattle.px_base.proofs.Listed.{place_is, not_equal, rising_apart}
 use Rattle.px_base.proofs.Positions.{at_position}
 use Rattle.worker_world.specs.declared.due.Due.{Due}
 use Rattle.reader_chains.specs.declared.readers.Readers.{Readers}
-use Rattle.worker_world.specs.Placed.{master_count, mirrors_after}
+use Rattle.placed_parts.specs.Places.{master_count}
+use Rattle.worker_world.specs.Placed.{mirrors_after}
 use Rattle.worker_world.specs.Due.{AreTold, IsUpdateTold}
 use Rattle.worker_world.proofs.Placing.{HasHalves, put_halves}
 

@@ -13,7 +13,8 @@ use Rattle.px_base.proofs.Positions.{length_by_position}
 use Rattle.worker_world.specs.declared.due.Due.{Due}
 use Rattle.worker_world.specs.Waiting.{AreListed}
 use Rattle.worker_world.specs.Due.{is_due}
-use Rattle.worker_world.specs.Placed.{master_count, renewed_at}
+use Rattle.placed_parts.specs.Places.{master_count}
+use Rattle.worker_world.specs.Placed.{renewed_at}
 use Rattle.worker_world.proofs.Halved.{drop_same}
 use Rattle.worker_world.proofs.Settling.{renewed_is}
 use Rattle.worker_world.proofs.Told.{none_listed}

@@ -8,7 +8,7 @@ use Rattle.px_base.specs.Values.{is_listed}
 use Rattle.px_base.specs.Core.{core_edge_value}
 use Rattle.px_base.specs.Rules.{mex, first_absent}
 use Rattle.px_base.proofs.Listed.{not_equal}
-use Rattle.worker_world.specs.declared.places.PlacedRead.{PlacedRead}
+use Rattle.px_base.specs.declared.graph.Read.{Read}
 use Rattle.worker_world.specs.Placed.{placed_items}
 use Rattle.worker_world.specs.Stamped.{IsStamped}
 
@@ -28,5 +28,5 @@ mex_is_unstamped items marks stamp m stamped room within before at =
     (λ k below. sym (stamped k (omega arith)) ∙ eq-eqb (get_or marks k 0) stamp (before k below))
     (λ below. sym (stamped m (omega arith)) ∙ not_equal (get_or marks m 0) stamp (at (omega arith))))
 
-pub length_items : (core : CoreProgram) (values : List ℕ) (row : List PlacedRead) → length (placed_items core values row) ≡ length row
-length_items core values row = length-map row (λ r. core_edge_value core (slice_index values r.place) r.weight)
+pub length_items : (core : CoreProgram) (values : List ℕ) (row : List Read) → length (placed_items core values row) ≡ length row
+length_items core values row = length-map row (λ r. core_edge_value core (slice_index values r.source) r.weight)

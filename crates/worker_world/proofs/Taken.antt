@@ -11,7 +11,8 @@ use Rattle.px_base.specs.Worlds.{ValueWorld, of_values, takes_update, first_fore
 use Rattle.px_base.specs.ValueSteps.{value_step, updated_mirrors, renewed_masters, some_changed, announcements}
 use Rattle.px_base.specs.WorldSteps.{world_step}
 use Rattle.worker_world.specs.declared.known.Known.{Known}
-use Rattle.worker_world.specs.Placed.{master_count, mirrors_after, masters_after}
+use Rattle.placed_parts.specs.Places.{master_count}
+use Rattle.worker_world.specs.Placed.{mirrors_after, masters_after}
 use Rattle.worker_world.specs.ByPlace.{IsByPlace, IsNoted, HasSameTables}
 use Rattle.worker_world.proofs.Placing.{HasHalves, put_halves}
 
@@ -42,7 +43,6 @@ put_in_force part core updates before noted after level is put =
 pub still_by_place : (part : Part) (core : CoreProgram) (noted after : Known) → IsByPlace part core noted → HasSameTables noted after → length after.values.items ≡ master_count part + length part.mirrors →
     length after.next.items ≡ length after.values.items → IsByPlace part core after
 still_by_place part core noted after placed same count next = record {
-  rows = rw same.rows placed.rows;
   readers = rw same.readers placed.readers;
   table = rw same.table placed.table;
   values = count;

@@ -1,36 +1,22 @@
 -- What a world knows of its part, by place.
-use Rattle.std.specs.Prelude.{◌≡◌, ℕ, ◌+◌, ◌<◌, ◌≤◌, false, All, IsTrue, List, length, take, drop, slice_index, slice_range}
+use Rattle.std.specs.Prelude.{◌≡◌, ℕ, ◌+◌, ◌<◌, ◌≤◌, false, All, IsTrue, List, length, take, drop, slice_index}
 use Rattle.px_base.specs.declared.graph.Part.{Part}
 use Rattle.px_base.specs.declared.program.CoreProgram.{CoreProgram}
 use Rattle.px_base.specs.declared.wire.Update.{Update}
-use Rattle.px_base.specs.Graphs.{row_at}
 use Rattle.px_base.specs.Classes.{is_mex}
 use Rattle.px_base.specs.Values.{is_listed}
 use Rattle.mirror_places.specs.Tables.{IsTableOf}
-use Rattle.worker_world.specs.declared.places.PlacedRead.{PlacedRead}
-use Rattle.worker_world.specs.declared.flat_rows.FlatRows.{FlatRows}
 use Rattle.worker_world.specs.declared.known.Known.{Known}
 use Rattle.px_base.specs.ValueSteps.{renewed_masters}
 use Rattle.worker_world.specs.Readers.{AreReaders}
 use Rattle.worker_world.specs.Due.{is_due}
-use Rattle.worker_world.specs.Placed.{master_count, placed_row, renewed_at, mirrors_after, masters_after}
+use Rattle.placed_parts.specs.Places.{master_count}
+use Rattle.worker_world.specs.Placed.{renewed_at, mirrors_after, masters_after}
 
--- between its start and the next the list of reads has this row
-pub record IsRowAt (reads : List PlacedRead) (starts : List ℕ) (k : ℕ) (row : List PlacedRead) : Type 0 where
-  pub order : slice_index starts k ≤ slice_index starts (k + 1)
-  pub within : slice_index starts (k + 1) ≤ length reads
-  pub is : slice_range reads (slice_index starts k) (slice_index starts (k + 1)) ≡ row
-
--- the rows are those of all masters, by place
-pub record AreRowsOf (part : Part) (rows : FlatRows) : Type 0 where
-  pub count : length rows.starts.items ≡ length part.rows + 1
-  pub each : (k : ℕ) → k < length part.rows → IsRowAt rows.reads.items rows.starts.items k (placed_row part (row_at part.rows k))
-
--- The rows and the readers are those of the part by place, the table is the one of its mirrors, both lists of values have one
+-- The readers are those of the part by place, the table is the one of its mirrors, both lists of values have one
 -- for each place, and there is a mark for each master. Where the program takes the least absent number, each row has room in
 -- the table of stamps.
 pub record IsByPlace (part : Part) (core : CoreProgram) (known : Known) : Type 0 where
-  pub rows : AreRowsOf part known.rows
   pub readers : AreReaders part known.readers
   pub table : IsTableOf part.mirrors known.table
   pub values : length known.values.items ≡ master_count part + length part.mirrors
@@ -64,7 +50,6 @@ pub record IsNoted (part : Part) (core : CoreProgram) (updates : List Update) (b
 
 -- what doesn't change but where a world is made or renewed
 pub record HasSameTables (before after : Known) : Type 0 where
-  pub rows : after.rows ≡ before.rows
   pub readers : after.readers ≡ before.readers
   pub table : after.table ≡ before.table
   pub stamps : after.stamps ≡ before.stamps

@@ -6,7 +6,7 @@ use Rattle.px_base.specs.Values.{place_of}
 use Rattle.worker_world.specs.declared.due.Due.{Due}
 use Rattle.reader_chains.specs.declared.readers.Readers.{Readers}
 use Rattle.worker_world.specs.Readers.{is_reader}
-use Rattle.worker_world.specs.Placed.{master_count}
+use Rattle.placed_parts.specs.Places.{master_count}
 
 -- all masters are due, or the k-th is marked
 abbrev pub is_due : Due → ℕ → Bool

@@ -2,6 +2,7 @@ pub mod ByPlace
 pub mod Due
 pub mod Kept
 pub mod Kinds
+pub mod Looked
 pub mod Placed
 pub mod Readers
 pub mod Stamped

@@ -1,38 +1,21 @@
--- The reads of a part by place, in one list of values: its masters stand first, in order, and then its mirrors.
-use Rattle.std.specs.Prelude.{length, ℕ, ◌+◌, ◌-◌, List, map, slice_index, replicate, take, drop, if◌then◌else◌}
+-- What masters gather by place, in one list of values: those of the masters stand first, in order, and then those of the mirrors.
+use Rattle.std.specs.Prelude.{length, ℕ, List, map, slice_index, replicate, take, drop, if◌then◌else◌}
 use Rattle.px_base.specs.declared.graph.Part.{Part}
 use Rattle.px_base.specs.declared.graph.Read.{Read}
 use Rattle.px_base.specs.declared.program.CoreProgram.{CoreProgram}
-use Rattle.px_base.specs.Values.{place_of}
 use Rattle.px_base.specs.Classes.{keeps}
 use Rattle.px_base.specs.Core.{core_edge_value, core_gather}
 use Rattle.px_base.specs.Graphs.{row_at}
-use Rattle.px_base.specs.Parts.{is_within}
 use Rattle.px_base.specs.declared.wire.Update.{Update}
 use Rattle.px_base.specs.ValueSteps.{updated_mirrors, renewed_value, renewed_masters}
-use Rattle.worker_world.specs.declared.places.PlacedRead.{PlacedRead}
+use Rattle.placed_parts.specs.Places.{master_count, placed_row}
 
--- how many masters the part has
-abbrev pub master_count : Part → ℕ
-master_count part = part.high - part.low
-
--- the place of u, a master or a mirror of the part
-abbrev pub place_in : Part → ℕ → ℕ
-place_in part u = if is_within part.low part.high u then u - part.low else master_count part + place_of part.mirrors u
-
--- the read with the place of its source
-abbrev pub placed_read : Part → Read → PlacedRead
-placed_read part read = record { place = place_in part read.source; weight = read.weight }
-
-abbrev pub placed_row : Part → List Read → List PlacedRead
-placed_row part row = map (placed_read part) row
-
--- what the values become on the reads of a row by this rule, where the list has the values of all masters and mirrors
-abbrev pub read_items : (ℕ → ℕ → ℕ) → List ℕ → List PlacedRead → List ℕ
-read_items rule values row = map (λ r. rule (slice_index values r.place) r.weight) row
+-- what the values become on the reads of a row by this rule, where the sources of the reads are places in the list
+abbrev pub read_items : (ℕ → ℕ → ℕ) → List ℕ → List Read → List ℕ
+read_items rule values row = map (λ r. rule (slice_index values r.source) r.weight) row
 
 -- the core edge values of a row
-abbrev pub placed_items : CoreProgram → List ℕ → List PlacedRead → List ℕ
+abbrev pub placed_items : CoreProgram → List ℕ → List Read → List ℕ
 placed_items core values row = read_items (core_edge_value core) values row
 
 -- what the k-th master gathers, and its new value, where the list has the values of all masters and mirrors

@@ -5,8 +5,8 @@ use Rattle.px_base.specs.Graphs.{row_at}
 use Rattle.px_base.specs.declared.graph.Part.{Part}
 use Rattle.reader_chains.specs.declared.readers.Readers.{Readers}
 use Rattle.reader_chains.specs.Readers.{readers_of}
-use Rattle.worker_world.specs.declared.places.PlacedRead.{PlacedRead}
-use Rattle.worker_world.specs.Placed.{master_count, placed_row}
+use Rattle.px_base.specs.declared.graph.Read.{Read}
+use Rattle.placed_parts.specs.Places.{master_count, placed_row}
 
 -- master k is among the readers of the place s
 abbrev pub is_reader : Readers → ℕ → ℕ → Bool
@@ -23,8 +23,8 @@ pub record HasGrown (reader : ℕ) (old new : Readers) : Type 0 where
   pub kept : (s k : ℕ) → is_reader old s k ≡ true → is_reader new s k ≡ true
 
 -- the master is a reader of each place in this row
-abbrev pub ReadsRow : Readers → ℕ → List PlacedRead → Type 0
-ReadsRow readers k row = All (λ r. is_reader readers r.place k ≡ true) row
+abbrev pub ReadsRow : Readers → ℕ → List Read → Type 0
+ReadsRow readers k row = All (λ r. is_reader readers r.source k ≡ true) row
 
 -- each master is a reader of each place in its row
 pub record AreReaders (part : Part) (readers : Readers) : Type 0 where

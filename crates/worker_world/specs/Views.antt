@@ -4,7 +4,7 @@ use Rattle.px_base.specs.Worlds.{World, of_values, ValueWorld}
 use Rattle.worker_world.specs.declared.value_world.ValueWorld.TheInside.{Inside}
 use Rattle.worker_world.specs.Kept.{KeepsLimits}
 use Rattle.worker_world.specs.ByPlace.{IsByPlace, AreSettled}
-use Rattle.worker_world.specs.Placed.{master_count}
+use Rattle.placed_parts.specs.Places.{master_count}
 
 -- the values that the fields hold, with their part and program: those of the masters stand first
 abbrev pub values_of : Inside → ValueWorld

@@ -3,7 +3,6 @@
 #![tactic(auto)]
 
 mod due;
-mod flat_rows;
 mod known;
 mod places;
 mod pulls;

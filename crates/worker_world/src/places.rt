@@ -1,64 +1,45 @@
-ghost use Rattle.std.specs.Prelude.{◌≡◌, ◌<◌, ◌≤◌, All, IsTrue, length};
-ghost use Rattle.px_base.specs.Values.{is_listed, place_of};
-ghost use Rattle.px_base.specs.Parts.{PartFits, is_known};
+//! Where the vertices of updates stand among the mirrors.
+ghost use Rattle.std.specs.Prelude.{◌≡◌, ◌≤◌, ◌++◌, ◌∷◌, [], None, IfErr, IsTrue, OnOk, length};
+ghost use Rattle.px_base.specs.declared.TheConstants.{MOST_VERTICES};
+ghost use Rattle.px_base.specs.Values.{is_listed};
+ghost use Rattle.px_base.specs.Worlds.{first_foreign};
 ghost use Rattle.mirror_places.specs.Tables.{IsTableOf};
-ghost use Rattle.worker_world.specs.Placed.{master_count, place_in};
+ghost use Rattle.worker_world.specs.Looked.{ArePlacesOf, IsFaultOf};
 
 use mirror_places::PlaceTable;
-use px_base::{Items, Part, Pos, Read};
+use px_base::{Pos, StepFault, Update};
 
-/// A read by place: in the list of all values the masters of a part stand first, in order, and then its mirrors.
-#[derive(Clone, Copy, Debug, PartialEq, Eq)]
-pub struct PlacedRead {
-    pub place: u32,
-    pub weight: u32,
+/// Puts a place behind those that are there, if there was room for all of them. Says whether there was room for this one too.
+fn put_place(places: &mut Vec<u32>, room: bool, place: u32) -> bool
+    ensures had { IsTrue result → IsTrue room }
+    ensures put { IsTrue result → places.new.items ≡ places.old.items ++ place ∷ [] }
+{
+    room && places.push(place).is_ok()
 }
 
-/// The place of a position that is in the list of the table.
-pub fn place_of(positions: &[Pos], table: &PlaceTable, u: Pos) -> usize
-    requires table { IsTableOf positions.now table.now }
-    requires listed { IsTrue (is_listed positions.now u) }
-    ensures place { result ≡ place_of positions.now u }
-    ensures within { result < length positions.now }
+/// Looks the vertex of each update up among the mirrors, once, and puts its place into the list. Errors: a vertex that is
+/// no mirror, want of memory. A vertex that is no mirror is told even where memory is wanting before it.
+pub fn find_places(
+    mirrors: &[Pos],
+    table: &PlaceTable,
+    updates: &[Update],
+    places: &mut Vec<u32>,
+) -> Result<(), StepFault>
+    requires table { IsTableOf mirrors.now table.now }
+    requires few { length mirrors.now ≤ MOST_VERTICES }
+    ensures taken { OnOk result (first_foreign (is_listed mirrors.now) updates.now ≡ None) }
+    ensures places { OnOk result (ArePlacesOf mirrors.now updates.now places.new.items) }
+    ensures fault { IfErr result (IsFaultOf (first_foreign (is_listed mirrors.now) updates.now)) }
 {
-    match table.find(positions, u) {
-        Some(at) => at,
-        None => {
-            prove!(false);
-            0
-        }
+    places.clear();
+    let mut room = places.reserve(updates.len()).is_ok();
+    for update in updates {
+        let Some(at) = table.find(mirrors, update.vertex) else {
+            return Err(StepFault::Foreign {
+                vertex: update.vertex,
+            });
+        };
+        room = put_place(places, room, at as u32);
     }
-}
-
-/// How many masters the part has.
-pub fn master_count(part: &Part) -> usize
-    ensures { result ≡ master_count part.now }
-{
-    part.high.saturating_sub(part.low) as usize
-}
-
-/// The place of a master or a mirror in the list of all values.
-#[tactic(auto, using(crate::proofs::Placing::mirror_count))]
-pub fn place_in(part: &Part, table: &PlaceTable, u: Pos) -> u32
-    requires fits { PartFits part.now }
-    requires table { IsTableOf part.now.mirrors table.now }
-    requires known { IsTrue (is_known part.now u) }
-    ensures { result ≡ place_in part.now u }
-{
-    if part.low <= u && u < part.high {
-        u - part.low
-    } else {
-        (part.high - part.low) + place_of(part.mirrors.as_slice(), table, u) as u32
-    }
-}
-
-/// The most reads that a row has.
-pub fn longest(rows: &[Items<Read>]) -> usize
-    ensures { All (λ row. length row ≤ result) rows.now }
-{
-    let mut most = 0;
-    for row in rows {
-        most = row.as_slice().len().max(most);
-    }
-    most
+    if room { Ok(()) } else { Err(StepFault::Memory) }
 }

@@ -1,16 +1,16 @@
+//! New values of masters from the values of all masters and mirrors.
 ghost use Rattle.std.specs.Prelude.{◌≡◌, ◌<◌, ◌≤◌, ◌+◌, ◌++◌, ℕ, true, false, All, IsTrue, IsFalse, length, slice_index, take, drop};
 ghost use Rattle.px_base.specs.Values.{IsValue, is_listed};
 ghost use Rattle.px_base.specs.Classes.{is_mex};
 ghost use Rattle.px_base.specs.Parts.{PartFits};
 ghost use Rattle.px_base.specs.ValueSteps.{renewed_value, renewed_masters};
-ghost use Rattle.worker_world.specs.Placed.{master_count, renewed_at};
-ghost use Rattle.worker_world.specs.ByPlace.{AreRowsOf};
+ghost use Rattle.placed_parts.specs.Places.{master_count};
+ghost use Rattle.worker_world.specs.Placed.{renewed_at};
 
-use crate::flat_rows::FlatRows;
-use crate::places::master_count;
 use crate::read_rules::least_of_row;
 use crate::stamps::Stamps;
-use px_base::{CoreProgram, Fold, Own, Part, Value};
+use placed_parts::PlacedPart;
+use px_base::{CoreProgram, Fold, Own, Value};
 
 /// The new value of a master that has this one and gathered that one.
 fn renewed_value(core: &CoreProgram, value: Value, pulled: Value) -> Value
@@ -23,39 +23,30 @@ fn renewed_value(core: &CoreProgram, value: Value, pulled: Value) -> Value
 }
 
 /// Writes the new value of each master that gathers the least, from the values of all masters and mirrors.
-fn write_least(
-    part: &Part,
-    core: &CoreProgram,
-    rows: &FlatRows,
-    values: &[Value],
-    next: &mut [Value],
-)
+fn write_least(part: &PlacedPart, core: &CoreProgram, values: &[Value], next: &mut [Value])
     requires fits { PartFits part.now }
-    requires rows { AreRowsOf part.now rows.now }
     requires count { length values.now ≡ master_count part.now + length part.now.mirrors }
     requires values { All IsValue values.now }
     requires next { length next.old ≡ master_count part.now }
     requires fold { IsFalse (is_mex core.now.program.fold) }
     ensures { next.new ≡ renewed_masters part.now core.now (take (master_count part.now) values.now) (drop (master_count part.now) values.now) }
 {
-    let starts = part.starts.as_slice();
+    let starts = part.starts();
     for k in 0..next.len() {
-        let pulled = least_of_row(core, values, starts[k], rows.row(k));
+        let pulled = least_of_row(core, values, starts[k], &part.row(k));
         next[k] = renewed_value(core, values[k], pulled);
     }
 }
 
 /// The same of each master that gathers the least absent number.
 fn write_mex(
-    part: &Part,
+    part: &PlacedPart,
     core: &CoreProgram,
-    rows: &FlatRows,
     values: &[Value],
     stamps: &mut Stamps,
     next: &mut [Value],
 )
     requires fits { PartFits part.now }
-    requires rows { AreRowsOf part.now rows.now }
     requires count { length values.now ≡ master_count part.now + length part.now.mirrors }
     requires values { All IsValue values.now }
     requires next { length next.old ≡ master_count part.now }
@@ -65,7 +56,7 @@ fn write_mex(
     ensures stamps { length stamps.new.marks.items ≡ length stamps.old.marks.items }
 {
     for k in 0..next.len() {
-        let pulled = stamps.mex(core, values, rows.row(k));
+        let pulled = stamps.mex(core, values, &part.row(k));
         next[k] = renewed_value(core, values[k], pulled);
     }
 }
@@ -84,15 +75,13 @@ pub fn is_mex(fold: Fold) -> bool
 
 /// Writes the new value of each master where the values of the masters stand first, and leaves the rest.
 fn write_masters(
-    part: &Part,
+    part: &PlacedPart,
     core: &CoreProgram,
-    rows: &FlatRows,
     values: &[Value],
     stamps: &mut Stamps,
     next: &mut [Value],
 )
     requires fits { PartFits part.now }
-    requires rows { AreRowsOf part.now rows.now }
     requires count { length values.now ≡ master_count part.now + length part.now.mirrors }
     requires values { All IsValue values.now }
     requires next { length next.old ≡ master_count part.now + length part.now.mirrors }
@@ -100,25 +89,23 @@ fn write_masters(
     ensures renewed { next.new ≡ renewed_masters part.now core.now (take (master_count part.now) values.now) (drop (master_count part.now) values.now) ++ drop (master_count part.now) next.old }
     ensures stamps { length stamps.new.marks.items ≡ length stamps.old.marks.items }
 {
-    let masters = &mut next[..master_count(part)];
+    let masters = &mut next[..part.master_count()];
     if is_mex(core.program.fold) {
-        write_mex(part, core, rows, values, stamps, masters);
+        write_mex(part, core, values, stamps, masters);
     } else {
-        write_least(part, core, rows, values, masters);
+        write_least(part, core, values, masters);
     }
 }
 
 /// Renews all masters in a list of the values of masters and mirrors.
 pub fn renew_masters(
-    part: &Part,
+    part: &PlacedPart,
     core: &CoreProgram,
-    rows: &FlatRows,
     values: &[Value],
     stamps: &mut Stamps,
     next: &mut Vec<Value>,
 )
     requires fits { PartFits part.now }
-    requires rows { AreRowsOf part.now rows.now }
     requires count { length values.now ≡ master_count part.now + length part.now.mirrors }
     requires values { All IsValue values.now }
     requires next { length next.old.items ≡ master_count part.now + length part.now.mirrors }
@@ -126,20 +113,18 @@ pub fn renew_masters(
     ensures renewed { next.new.items ≡ renewed_masters part.now core.now (take (master_count part.now) values.now) (drop (master_count part.now) values.now) ++ drop (master_count part.now) next.old.items }
     ensures stamps { length stamps.new.marks.items ≡ length stamps.old.marks.items }
 {
-    write_masters(part, core, rows, values, stamps, next.as_mut_slice());
+    write_masters(part, core, values, stamps, next.as_mut_slice());
 }
 
 /// The new value of one master, from the values of all masters and mirrors.
 fn renewed_one(
-    part: &Part,
+    part: &PlacedPart,
     core: &CoreProgram,
-    rows: &FlatRows,
     values: &[Value],
     stamps: &mut Stamps,
     k: usize,
 ) -> Value
     requires fits { PartFits part.now }
-    requires rows { AreRowsOf part.now rows.now }
     requires count { length values.now ≡ master_count part.now + length part.now.mirrors }
     requires values { All IsValue values.now }
     requires k { k < master_count part.now }
@@ -147,27 +132,25 @@ fn renewed_one(
     ensures renewed { result ≡ renewed_at part.now core.now values.now k }
     ensures stamps { length stamps.new.marks.items ≡ length stamps.old.marks.items }
 {
-    let row = rows.row(k);
+    let row = part.row(k);
     let pulled = if is_mex(core.program.fold) {
-        stamps.mex(core, values, row)
+        stamps.mex(core, values, &row)
     } else {
-        least_of_row(core, values, part.starts.as_slice()[k], row)
+        least_of_row(core, values, part.starts()[k], &row)
     };
     renewed_value(core, values[k], pulled)
 }
 
 /// Renews the listed masters in a list of the values of masters and mirrors.
 pub fn renew_listed(
-    part: &Part,
+    part: &PlacedPart,
     core: &CoreProgram,
-    rows: &FlatRows,
     values: &[Value],
     masters: &[u32],
     stamps: &mut Stamps,
     next: &mut Vec<Value>,
 )
     requires fits { PartFits part.now }
-    requires rows { AreRowsOf part.now rows.now }
     requires count { length values.now ≡ master_count part.now + length part.now.mirrors }
     requires values { All IsValue values.now }
     requires masters { All (λ k. k < master_count part.now) masters.now }
@@ -180,6 +163,6 @@ pub fn renew_listed(
 {
     for master in masters {
         let k = *master as usize;
-        next[k] = renewed_one(part, core, rows, values, stamps, k);
+        next[k] = renewed_one(part, core, values, stamps, k);
     }
 }

@@ -1,12 +1,12 @@
-ghost use Rattle.std.specs.Prelude.{◌≡◌, ◌<◌, ◌≤◌, ◌+◌, ℕ, min, All, length};
+//! What values become on the reads of a row, and the least of them.
+ghost use Rattle.std.specs.Prelude.{◌≡◌, ◌<◌, ◌≤◌, ◌+◌, ℕ, min, map, All, IsFalse, length, slice_index};
 ghost use Rattle.px_base.specs.Values.{IsValue, IsWeight, flip};
 ghost use Rattle.px_base.specs.Core.{core_edge_value};
 ghost use Rattle.px_base.specs.Rules.{least};
 ghost use Rattle.px_base.specs.declared.TheConstants.{TOP};
 ghost use Rattle.worker_world.specs.Placed.{placed_items, read_items};
 
-use crate::places::PlacedRead;
-use px_base::{Along, CoreProgram, TOP, Value, Weight};
+use px_base::{Along, CoreProgram, Pos, Row, TOP, Value, Weight};
 use value_laws::{EdgeRule, flip};
 
 /// What a core value becomes on a read. The commonest rules have a type of their own, so that the loop over a row has no
@@ -21,9 +21,20 @@ trait ReadRule {
         ensures { result ≡ read_value self.now x w };
 }
 
+/// The same of a program that doesn't ask for the weight of a read, so that the loop over a row goes through its sources
+/// alone.
+pub trait SourceRule {
+    ghost source_value: { Self → ℕ → ℕ };
+
+    /// What the value `x` becomes on a read.
+    fn value_from(&self, x: Value) -> Value
+        requires { IsValue x }
+        ensures { result ≡ source_value self.now x };
+}
+
 /// The value stays as it is.
 #[derive(Clone, Copy)]
-struct Unchanged;
+pub struct Unchanged;
 
 /// So much is added.
 #[derive(Clone, Copy)]
@@ -39,19 +50,27 @@ struct PlusItsWeight;
 #[derive(Clone, Copy)]
 struct CapTurnedRound;
 
-impl ReadRule for Unchanged {
-    ghost read_value = { λ _ x w. x };
+impl SourceRule for Unchanged {
+    ghost source_value = { λ _ x. x };
 
-    fn value_read(&self, x: Value, _w: Weight) -> Value {
+    fn value_from(&self, x: Value) -> Value {
         x
     }
 }
 
-impl ReadRule for PlusConstant {
-    ghost read_value = { λ rule x w. min (x + rule.n) TOP };
+impl SourceRule for PlusConstant {
+    ghost source_value = { λ rule x. min (x + rule.n) TOP };
 
-    fn value_read(&self, x: Value, _w: Weight) -> Value {
+    fn value_from(&self, x: Value) -> Value {
         x.saturating_add(self.n).min(TOP)
+    }
+}
+
+impl SourceRule for CoreProgram {
+    ghost source_value = { λ core x. core_edge_value core x 0 };
+
+    fn value_from(&self, x: Value) -> Value {
+        self.value(x, 0)
     }
 }
 
@@ -79,31 +98,80 @@ impl ReadRule for CoreProgram {
     }
 }
 
+/// Whether the program asks for the weights of reads.
+pub fn reads_weights(core: &CoreProgram) -> bool
+    ensures { IsFalse result → (x w : ℕ) → core_edge_value core.now x 0 ≡ core_edge_value core.now x w }
+{
+    match core.program.along {
+        Along::Same => false,
+        Along::Plus(_) => false,
+        Along::Minus(_) => false,
+        Along::PlusWeight => true,
+        Along::FloorWeight => true,
+        Along::CapWeight => true,
+    }
+}
+
 /// The least of the start value and what the values become on the reads of the row.
-fn least_read<E: ReadRule>(rule: &E, values: &[Value], start: Value, row: &[PlacedRead]) -> Value
-    requires places { All (λ r. r.place < length values.now) row.now }
+fn least_read<E: ReadRule>(rule: &E, values: &[Value], start: Value, row: &Row<'_>) -> Value
+    requires places { All (λ r. r.source < length values.now) row.now }
     requires values { All IsValue values.now }
     ensures { result ≡ least start (read_items (E.read_value rule.now) values.now row.now) }
 {
     let mut best = start;
-    for read in row {
-        let source = values[read.place as usize];
-        best = best.min(rule.value_read(source, u64::from(read.weight)));
+    for k in 0..row.len() {
+        let read = row.read(k);
+        best = best.min(rule.value_read(values[read.source as usize], read.weight));
     }
     best
 }
 
+/// The least of the start value and what the values at these places become.
+fn least_at<E: SourceRule>(rule: &E, values: &[Value], start: Value, places: &[Pos]) -> Value
+    requires places { All (λ s. s < length values.now) places.now }
+    requires values { All IsValue values.now }
+    ensures { result ≡ least start (map (λ s. E.source_value rule.now (slice_index values.now s)) places.now) }
+{
+    let mut best = start;
+    for place in places {
+        best = best.min(rule.value_from(values[*place as usize]));
+    }
+    best
+}
+
+/// The least of the start value and what the values become on the reads of the row, whatever weights they have.
+fn least_of_sources<E: SourceRule>(rule: &E, values: &[Value], start: Value, row: &Row<'_>) -> Value
+    requires places { All (λ r. r.source < length values.now) row.now }
+    requires values { All IsValue values.now }
+    ensures { result ≡ least start (read_items (λ x w. E.source_value rule.now x) values.now row.now) }
+{
+    least_at(rule, values, start, row.sources())
+}
+
+/// The least of the start value and the edge values of the row, of any program.
+fn least_of_any(core: &CoreProgram, values: &[Value], start: Value, row: &Row<'_>) -> Value
+    requires places { All (λ r. r.source < length values.now) row.now }
+    requires values { All IsValue values.now }
+    ensures { result ≡ least start (placed_items core.now values.now row.now) }
+{
+    if reads_weights(core) {
+        least_read(core, values, start, row)
+    } else {
+        least_of_sources(core, values, start, row)
+    }
+}
+
 /// The least of the start value and the edge values of the row.
-pub fn least_of_row(core: &CoreProgram, values: &[Value], start: Value, row: &[PlacedRead]) -> Value
-    requires places { All (λ r. r.place < length values.now) row.now }
+pub fn least_of_row(core: &CoreProgram, values: &[Value], start: Value, row: &Row<'_>) -> Value
+    requires places { All (λ r. r.source < length values.now) row.now }
     requires values { All IsValue values.now }
     ensures { result ≡ least start (placed_items core.now values.now row.now) }
 {
     match (core.flipped, core.program.along) {
-        (false, Along::Same) => least_read(&Unchanged, values, start, row),
-        (false, Along::Plus(n)) => least_read(&PlusConstant { n }, values, start, row),
+        (false, Along::Same) => least_of_sources(&Unchanged, values, start, row),
+        (false, Along::Plus(n)) => least_of_sources(&PlusConstant { n }, values, start, row),
         (false, Along::PlusWeight) => least_read(&PlusItsWeight, values, start, row),
         (true, Along::CapWeight) => least_read(&CapTurnedRound, values, start, row),
-        _ => least_read(core, values, start, row),
+        _ => least_of_any(core, values, start, row),
     }
 }

@@ -1,15 +1,15 @@
+//! What a Step does to lists of values: a first one, updates put in place and taken back, and what has changed.
 ghost use Rattle.std.specs.Prelude.{◌≡◌, ◌++◌, ◌<◌, ◌≤◌, ◌+◌, ◌-◌, ◌||◌, All, IfOk, IsTrue, length, take, drop};
 ghost use Rattle.std.specs.List.Sorted.{IsStrictlyIncreasing};
 ghost use Rattle.std.specs.List.{list_any};
-ghost use Rattle.px_base.specs.Values.{is_listed};
 ghost use Rattle.px_base.specs.Parts.{PartFits, is_within};
 ghost use Rattle.px_base.specs.ValueSteps.{announcements, has_changed, some_changed, updated_mirrors};
-ghost use Rattle.mirror_places.specs.Tables.{IsTableOf};
-ghost use Rattle.worker_world.specs.Placed.{master_count, first_values, mirrors_after};
+ghost use Rattle.placed_parts.specs.Places.{master_count};
+ghost use Rattle.worker_world.specs.Looked.{ArePlacesOf};
+ghost use Rattle.worker_world.specs.Placed.{first_values, mirrors_after};
 
-use crate::places::{master_count, place_of};
-use mirror_places::PlaceTable;
-use px_base::{CoreProgram, Memory, Own, Part, Pos, Update, Value};
+use placed_parts::PlacedPart;
+use px_base::{CoreProgram, Memory, Own, Pos, Update, Value};
 use std::alloc::Global;
 
 /// A copy of the values.
@@ -30,11 +30,15 @@ fn joined(alloc: Global, masters: &[Value], mirrors: &[Value]) -> Result<Vec<Val
 
 /// The values that a new world has, those of all masters first: the start values, or 0 where the program drops what a
 /// vertex had.
-pub fn first_values(alloc: Global, core: &CoreProgram, part: &Part) -> Result<Vec<Value>, Memory>
+pub fn first_values(
+    alloc: Global,
+    core: &CoreProgram,
+    part: &PlacedPart,
+) -> Result<Vec<Value>, Memory>
     requires { PartFits part.now }
     ensures { IfOk result (λ values. values.items ≡ first_values core.now part.now.starts ++ first_values core.now part.now.mirror_starts) }
 {
-    let (starts, mirrors) = (part.starts.as_slice(), part.mirror_starts.as_slice());
+    let (starts, mirrors) = (part.starts(), part.mirror_starts());
     match core.program.own {
         Own::Keep => joined(alloc, starts, mirrors),
         Own::Drop => Ok(vec![in alloc; 0; starts.len() + mirrors.len()]?),
@@ -42,81 +46,69 @@ pub fn first_values(alloc: Global, core: &CoreProgram, part: &Part) -> Result<Ve
 }
 
 /// Puts the updates in place, each at its mirror.
-fn apply_updates(mirrors: &[Pos], table: &PlaceTable, updates: &[Update], values: &mut [Value])
+fn apply_updates(mirrors: &[Pos], updates: &[Update], places: &[u32], values: &mut [Value])
     requires rising { IsStrictlyIncreasing mirrors.now }
-    requires table { IsTableOf mirrors.now table.now }
     requires lengths { length values.old ≡ length mirrors.now }
-    requires known { All (λ u. IsTrue (is_listed mirrors.now u.vertex)) updates.now }
+    requires places { ArePlacesOf mirrors.now updates.now places.now }
     ensures { values.new ≡ updated_mirrors mirrors.now updates.now values.old }
 {
-    for update in updates {
-        let at = place_of(mirrors, table, update.vertex);
-        values[at] = update.value;
+    for k in 0..updates.len() {
+        values[places[k] as usize] = updates[k].value;
     }
 }
 
 /// Takes them back: each mirror that has one gets the value again that it has in `before`.
 fn take_back(
     mirrors: &[Pos],
-    table: &PlaceTable,
     updates: &[Update],
+    places: &[u32],
     before: &[Value],
     values: &mut [Value],
 )
     requires rising { IsStrictlyIncreasing mirrors.now }
-    requires table { IsTableOf mirrors.now table.now }
     requires lengths { length before.now ≡ length mirrors.now }
-    requires known { All (λ u. IsTrue (is_listed mirrors.now u.vertex)) updates.now }
+    requires places { ArePlacesOf mirrors.now updates.now places.now }
     requires updated { values.old ≡ updated_mirrors mirrors.now updates.now before.now }
     ensures { values.new ≡ before.now }
 {
-    for update in updates {
-        let at = place_of(mirrors, table, update.vertex);
-        values[at] = before[at];
+    for place in places {
+        values[*place as usize] = before[*place as usize];
     }
 }
 
 /// Puts the updates in place where the values of the masters stand before those of the mirrors.
-pub fn put_updates(part: &Part, table: &PlaceTable, updates: &[Update], values: &mut Vec<Value>)
+pub fn put_updates(part: &PlacedPart, updates: &[Update], places: &[u32], values: &mut Vec<Value>)
     requires fits { PartFits part.now }
-    requires table { IsTableOf part.now.mirrors table.now }
     requires count { length values.old.items ≡ master_count part.now + length part.now.mirrors }
-    requires known { All (λ u. IsTrue (is_listed part.now.mirrors u.vertex)) updates.now }
+    requires places { ArePlacesOf part.now.mirrors updates.now places.now }
     ensures { values.new.items ≡ take (master_count part.now) values.old.items ++ mirrors_after part.now updates.now values.old.items }
 {
-    let count = master_count(part);
+    let count = part.master_count();
     let values = values.as_mut_slice();
-    apply_updates(
-        part.mirrors.as_slice(),
-        table,
-        updates,
-        &mut values[count..],
-    );
+    apply_updates(part.mirrors(), updates, places, &mut values[count..]);
 }
 
 /// Takes them back there.
 pub fn take_updates_back(
-    part: &Part,
-    table: &PlaceTable,
+    part: &PlacedPart,
     updates: &[Update],
+    places: &[u32],
     before: &[Value],
     values: &mut Vec<Value>,
 )
     requires fits { PartFits part.now }
-    requires table { IsTableOf part.now.mirrors table.now }
     requires before { length before.now ≡ master_count part.now + length part.now.mirrors }
     requires count { length values.old.items ≡ master_count part.now + length part.now.mirrors }
-    requires known { All (λ u. IsTrue (is_listed part.now.mirrors u.vertex)) updates.now }
+    requires places { ArePlacesOf part.now.mirrors updates.now places.now }
     requires updated { drop (master_count part.now) values.old.items ≡ mirrors_after part.now updates.now before.now }
     ensures { values.new.items ≡ take (master_count part.now) values.old.items ++ drop (master_count part.now) before.now }
 {
-    let count = master_count(part);
-    let mirrors = part.mirrors.as_slice();
+    let count = part.master_count();
     let values = values.as_mut_slice();
     take_back(
-        mirrors,
-        table,
+        part.mirrors(),
         updates,
+        places,
         &before[count..],
         &mut values[count..],
     );
@@ -160,24 +152,24 @@ pub fn many_changed(before: &[Value], after: &[Value]) -> bool
 }
 
 /// Whether a master of the boundary is announced.
-fn is_announced(all: bool, part: &Part, before: &[Value], after: &[Value], v: Pos) -> bool
+fn is_announced(all: bool, part: &PlacedPart, before: &[Value], after: &[Value], v: Pos) -> bool
     requires within { IsTrue (is_within part.now.low part.now.high v) }
     requires before { length before.now ≡ part.now.high - part.now.low }
     requires after { length after.now ≡ part.now.high - part.now.low }
     ensures { result ≡ (all || has_changed before.now after.now (v - part.now.low)) }
 {
-    let k = (v - part.low) as usize;
+    let k = (v - part.low()) as usize;
     all || before[k] != after[k]
 }
 
 /// How many are announced.
-fn announced_count(all: bool, part: &Part, before: &[Value], after: &[Value]) -> usize
+fn announced_count(all: bool, part: &PlacedPart, before: &[Value], after: &[Value]) -> usize
     requires fits { PartFits part.now }
     requires before { length before.now ≡ part.now.high - part.now.low }
     requires after { length after.now ≡ part.now.high - part.now.low }
 {
     let mut count: usize = 0;
-    for v in part.boundary.as_slice() {
+    for v in part.boundary() {
         if is_announced(all, part, before, after, *v) {
             count += 1;
         }
@@ -189,7 +181,7 @@ fn announced_count(all: bool, part: &Part, before: &[Value], after: &[Value]) ->
 pub fn announcements(
     alloc: Global,
     all: bool,
-    part: &Part,
+    part: &PlacedPart,
     before: &[Value],
     after: &[Value],
 ) -> Result<Vec<Update>, Memory>
@@ -200,11 +192,11 @@ pub fn announcements(
 {
     let room = announced_count(all, part, before, after);
     let mut updates = Vec::with_capacity(alloc, room)?;
-    for v in part.boundary.as_slice() {
+    for v in part.boundary() {
         if is_announced(all, part, before, after, *v) {
             updates.push(Update {
                 vertex: *v,
-                value: after[(*v - part.low) as usize],
+                value: after[(*v - part.low()) as usize],
             })?;
         }
     }

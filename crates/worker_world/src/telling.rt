@@ -1,19 +1,18 @@
 //! Whoever reads a place is due where the value there changes.
 ghost use Rattle.std.specs.Prelude.{◌≡◌, ◌<◌, ◌+◌, ◌++◌, ℕ, true, false, All, IsTrue, length, slice_index, slice_set, take, drop};
 ghost use Rattle.px_base.specs.Values.{is_listed};
-ghost use Rattle.mirror_places.specs.Tables.{IsTableOf};
-ghost use Rattle.worker_world.specs.Placed.{master_count};
+ghost use Rattle.placed_parts.specs.Places.{master_count};
+ghost use Rattle.worker_world.specs.Looked.{ArePlacesOf};
 ghost use Rattle.worker_world.specs.Readers.{is_reader, AreReaders};
 ghost use Rattle.worker_world.specs.Due.{is_due, StaysDue, IsTold, AreTold, IsUpdateTold};
 
 use crate::due::Due;
-use crate::places::{master_count, place_of};
-use mirror_places::PlaceTable;
-use px_base::{Part, Update, Value};
+use placed_parts::PlacedPart;
+use px_base::{Update, Value};
 use reader_chains::Readers;
 
 /// The readers of a place are due.
-fn tell_readers(part: &Part, readers: &Readers, place: usize, due: &mut Due)
+fn tell_readers(part: &PlacedPart, readers: &Readers, place: usize, due: &mut Due)
     requires readers { AreReaders part.now readers.now }
     requires size { length due.old.marked.items ≡ master_count part.now }
     requires place { place < master_count part.now + length part.now.mirrors }
@@ -30,7 +29,14 @@ fn tell_readers(part: &Part, readers: &Readers, place: usize, due: &mut Due)
 }
 
 /// The readers of a place are due where its value becomes another one.
-fn tell_of(part: &Part, readers: &Readers, place: usize, had: Value, value: Value, due: &mut Due)
+fn tell_of(
+    part: &PlacedPart,
+    readers: &Readers,
+    place: usize,
+    had: Value,
+    value: Value,
+    due: &mut Due,
+)
     requires readers { AreReaders part.now readers.now }
     requires size { length due.old.marked.items ≡ master_count part.now }
     requires place { place < master_count part.now + length part.now.mirrors }
@@ -44,31 +50,30 @@ fn tell_of(part: &Part, readers: &Readers, place: usize, had: Value, value: Valu
 
 /// Tells of the updates that are to be put among the values of masters and mirrors.
 pub fn tell_of_updates(
-    part: &Part,
-    table: &PlaceTable,
+    part: &PlacedPart,
     readers: &Readers,
     updates: &[Update],
+    places: &[u32],
     values: &[Value],
     due: &mut Due,
 )
-    requires table { IsTableOf part.now.mirrors table.now }
     requires readers { AreReaders part.now readers.now }
     requires size { length due.old.marked.items ≡ master_count part.now }
     requires values { length values.now ≡ master_count part.now + length part.now.mirrors }
-    requires known { All (λ u. IsTrue (is_listed part.now.mirrors u.vertex)) updates.now }
+    requires places { ArePlacesOf part.now.mirrors updates.now places.now }
     ensures told { All (IsUpdateTold part.now readers.now due.new values.now) updates.now }
     ensures stays { StaysDue due.old due.new }
 {
-    let count = master_count(part);
-    for update in updates {
-        let place = count + place_of(part.mirrors.as_slice(), table, update.vertex);
-        tell_of(part, readers, place, values[place], update.value, due);
+    let count = part.master_count();
+    for k in 0..updates.len() {
+        let place = count + places[k] as usize;
+        tell_of(part, readers, place, values[place], updates[k].value, due);
     }
 }
 
 /// Puts the value of a place in, and tells of it.
 fn settle(
-    part: &Part,
+    part: &PlacedPart,
     readers: &Readers,
     place: usize,
     next: &[Value],
@@ -90,7 +95,7 @@ fn settle(
 
 /// Puts the next values of all masters in, and tells of each that changes.
 pub fn settle_all(
-    part: &Part,
+    part: &PlacedPart,
     readers: &Readers,
     next: &[Value],
     values: &mut Vec<Value>,
@@ -104,14 +109,14 @@ pub fn settle_all(
     ensures told { AreTold (master_count part.now) readers.now due.new values.old.items values.new.items }
     ensures stays { StaysDue due.old due.new }
 {
-    for place in 0..master_count(part) {
+    for place in 0..part.master_count() {
         settle(part, readers, place, next, values, due);
     }
 }
 
 /// The same, where at most these masters change.
 pub fn settle_listed(
-    part: &Part,
+    part: &PlacedPart,
     readers: &Readers,
     masters: &[u32],
     next: &[Value],

@@ -1,23 +1,27 @@
+//! A world of values, and one step of it.
 ghost use Rattle.std.specs.Prelude.{◌≡◌};
 
 use crate::known::Known;
-use crate::places::master_count;
+use crate::places::find_places;
 use crate::steps::copy_of;
-use px_base::{Answer, CoreProgram, Items, Memory, Order, Part, Pos, StepFault, Update, Value};
+use mirror_places::PlaceTable;
+use placed_parts::PlacedPart;
+use px_base::{Answer, CoreProgram, Items, Memory, Order, Part, StepFault, Update, Value};
 use std::alloc::Global;
 use std::marker::Model;
 
 /// A world of values: a worker's part of the graph, how far it has come, and the core value of each of its masters and
-/// mirrors.
+/// mirrors. `places` is room for the places of a Step's updates, so that each is looked up once.
 #[derive(Drop)]
 pub struct ValueWorld {
     alloc: Global,
-    part: Part,
+    part: PlacedPart,
     core: CoreProgram,
     chunks: u32,
     epoch: u32,
     round: u64,
     known: Known,
+    places: Vec<u32>,
 }
 
 impl Model for ValueWorld {
@@ -33,7 +37,8 @@ impl Model for ValueWorld {
 }
 
 impl ValueWorld {
-    ghost use Rattle.std.specs.Prelude.{◌≡◌, ◌≤◌, ◌^◌, ℕ, Some, None, Ok, OnErr, IfOk, IfErr, IfSome, IfNone, IsFalse};
+    ghost use Rattle.px_base.specs.declared.TheConstants.{MOST_READS};
+    ghost use Rattle.std.specs.Prelude.{◌≡◌, ◌≤◌, ℕ, Some, None, Ok, OnErr, IfOk, IfErr, IfSome, IfNone, IsFalse};
     ghost use Rattle.px_base.specs.Graphs.{HasWeights, read_count};
     ghost use Rattle.px_base.specs.Parts.{PartFits};
     ghost use Rattle.px_base.specs.Classes.{counts_reads};
@@ -53,12 +58,14 @@ impl ValueWorld {
     ) -> Result<ValueWorld, Memory>
         requires fits { PartFits part }
         requires weights { HasWeights part.rows }
-        requires reads { read_count part.rows ≤ 2 ^ 25 }
+        requires reads { read_count part.rows ≤ MOST_READS }
         requires chunks { (1 ≤ chunks) × (chunks ≤ 64) }
         requires fold { IsFalse (counts_reads core.program.fold) }
         ensures { IfOk result (λ w. w ≡ new_world part core) }
     {
-        let known = Known::new(alloc, &part, &core)?;
+        let table = PlaceTable::new(alloc, part.mirrors.as_slice())?;
+        let part = PlacedPart::new(part, &table);
+        let known = Known::new(alloc, &part, table, &core)?;
         Ok(ValueWorld {
             alloc,
             part,
@@ -67,6 +74,7 @@ impl ValueWorld {
             epoch: 0,
             round: 0,
             known,
+            places: Vec::new(alloc),
         })
     }
 
@@ -75,7 +83,7 @@ impl ValueWorld {
         ensures values { result.now ≡ masters_of self.now }
         ensures kept { KeepsValues self.now }
     {
-        &self.known.values[..master_count(&self.part)]
+        &self.known.values[..self.part.master_count()]
     }
 
     /// One step. A Step of the world's epoch or a later one puts its updates in place and renews all masters at once; a
@@ -117,30 +125,7 @@ impl ValueWorld {
         })
     }
 
-    /// Whether the world takes an update of this vertex.
-    fn takes(&self, v: Pos) -> bool
-        ensures { result ≡ takes_update self.now v }
-    {
-        let mirrors = self.part.mirrors.as_slice();
-        self.known.table.find(mirrors, v).is_some()
-    }
-
-    /// The first vertex of an update that isn't taken.
-    #[tactic(auto, using(count_world::proofs::Foreign::foreign_at, count_world::proofs::Foreign::none_foreign))]
-    fn foreign_vertex(&self, updates: &[Update]) -> Option<Pos>
-        ensures some { IfSome result (λ v. first_foreign (takes_update self.now) updates.now ≡ Some (foreign v)) }
-        ensures none { IfNone result (first_foreign (takes_update self.now) updates.now ≡ None) }
-    {
-        for update in updates {
-            if !self.takes(update.vertex) {
-                return Some(update.vertex);
-            }
-        }
-        None
-    }
-
     /// A Step of any epoch.
-    #[tactic(auto, using(count_world::proofs::Foreign::step_refused, count_world::proofs::Foreign::step_taken))]
     fn advance(&mut self, epoch: u32, round: u64, updates: &[Update]) -> Result<Answer, StepFault>
         requires { CarriesValues updates.now }
         ensures ok { IfOk result (λ answer. world_step self.old (Order.Step epoch round updates.now) ≡ Ok (record { world = self.new; answer = answer })) }
@@ -152,31 +137,32 @@ impl ValueWorld {
         if epoch < had {
             return Err(StepFault::WrongEpoch { had, got: epoch });
         }
-        if let Some(vertex) = self.foreign_vertex(updates) {
-            return Err(StepFault::Foreign { vertex });
-        }
-        match self.renew(epoch, round, updates) {
-            Ok(answer) => Ok(answer),
-            Err(Memory) => Err(StepFault::Memory),
-        }
+        self.renew(epoch, round, updates)
     }
 
-    /// A Step that isn't refused. Nothing wants memory but the answer; where that is wanting, the updates are taken back.
-    #[tactic(auto, using(count_world::proofs::Foreign::all_taken, crate::proofs::Placing::all_in_both))]
-    fn renew(&mut self, epoch: u32, round: u64, updates: &[Update]) -> Result<Answer, Memory>
+    /// A Step of the world's epoch or a later one. Each update's mirror is looked up before anything changes. After that
+    /// nothing wants memory but the answer; where that is wanting, the updates are taken back.
+    #[tactic(auto, using(crate::proofs::Placing::all_in_both))]
+    fn renew(&mut self, epoch: u32, round: u64, updates: &[Update]) -> Result<Answer, StepFault>
         requires epoch { epoch_of self.old ≤ epoch }
-        requires taken { first_foreign (takes_update self.old) updates.now ≡ None }
         requires values { CarriesValues updates.now }
         ensures ok { IfOk result (λ answer. world_step self.old (Order.Step epoch round updates.now) ≡ Ok (record { world = self.new; answer = answer })) }
+        ensures refused { IfErr result (λ fault. Refuses fault (world_step self.old (Order.Step epoch round updates.now))) }
         ensures kept { OnErr result (self.new ≡ self.old) }
     {
+        let mirrors = self.part.mirrors();
+        let found = find_places(mirrors, &self.known.table, updates, &mut self.places);
+        if let Err(fault) = found {
+            return Err(fault);
+        }
+        let places = self.places.as_slice();
         let fresh = self.epoch < epoch;
-        let changed = self.known.note(&self.part, &self.core, updates);
+        let changed = self.known.note(&self.part, &self.core, updates, places);
         let Ok(announced) = self.known.announced(self.alloc, &self.part, fresh) else {
-            self.known.forget(&self.part, updates);
-            return Err(Memory);
+            self.known.forget(&self.part, updates, places);
+            return Err(StepFault::Memory);
         };
-        self.known.commit(&self.part, updates);
+        self.known.commit(&self.part, updates, places);
         self.epoch = epoch;
         self.round = round;
         Ok(Answer::Stepped {

@@ -1,3 +1,4 @@
+//! A world of values or of counts.
 use crate::value_world::ValueWorld;
 use count_world::CountWorld;
 use px_base::{Answer, CoreProgram, Fold, Memory, Order, Part, StepFault, Value};
@@ -30,7 +31,8 @@ impl Model for World {
 }
 
 impl World {
-    ghost use Rattle.std.specs.Prelude.{◌≡◌, ◌≤◌, ◌^◌, Ok, OnErr, IfOk, IfErr};
+    ghost use Rattle.px_base.specs.declared.TheConstants.{MOST_READS};
+    ghost use Rattle.std.specs.Prelude.{◌≡◌, ◌≤◌, Ok, OnErr, IfOk, IfErr};
     ghost use Rattle.px_base.specs.Graphs.{HasWeights, read_count};
     ghost use Rattle.px_base.specs.Parts.{PartFits};
     ghost use Rattle.px_base.specs.Core.{core_form};
@@ -46,7 +48,7 @@ impl World {
     pub fn new(alloc: Global, part: Part, core: CoreProgram, chunks: u32) -> Result<World, Memory>
         requires fits { PartFits part }
         requires weights { HasWeights part.rows }
-        requires reads { read_count part.rows ≤ 2 ^ 25 }
+        requires reads { read_count part.rows ≤ MOST_READS }
         requires core { core ≡ core_form core.program }
         requires chunks { (1 ≤ chunks) × (chunks ≤ 64) }
         ensures { IfOk result (λ w. w ≡ new_world part core) }

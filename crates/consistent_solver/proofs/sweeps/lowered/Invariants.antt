@@ -4,5 +4,5 @@ use Rattle.consistent_solver.specs.Sweeps.{core_edge_values}
 use Rattle.consistent_solver.proofs.sweeps.lowered.Given as goal
 
 -- the least of the reads so far
-abbrev pub invariant-loop-read : goal.invariant-loop-read
-invariant-loop-read l = l.best ≡ least l.own (core_edge_values l.core l.values (take l.read-index l.row))
+abbrev pub invariant-loop-k : goal.invariant-loop-k
+invariant-loop-k l = l.best ≡ least l.own (core_edge_values l.core l.values (take l.k l.row))

@@ -12,9 +12,8 @@ loop-v-init c = none_swept c.args.core.now c.args.rows.now c.args.values.now c.a
 
 pub loop-v-preserved : goal.loop-v-preserved
 loop-v-preserved c =
-    let inside : c.loop-v.v < length c.args.rows.now = omega arith in
-    let row : c.as_slice.result.now ≡ row_at c.args.rows.now c.loop-v.v =
-    c.as_slice.ensures ∙ get_or_read_under c.args.rows.now c.loop-v.v (length c.args.rows.now) c.index-rows-v.result [] c.index-rows-v.is inside refl in
+    let inside : c.loop-v.v < length c.args.rows.now = omega (arith, c.row_count-v-end.ensures) in
+    let row : c.row.result ≡ row_at c.args.rows.now c.loop-v.v = c.row.ensures.row in
     let is : c.lowered-least.result ≡ lowered_at c.args.core.now c.args.rows.now c.loop-v.values c.loop-v.v =
     c.lowered-least.ensures ∙ ap (λ reads. least (get_or c.loop-v.values c.loop-v.v 0) (core_edge_values c.args.core.now c.loop-v.values reads)) row in
     elim c.if-least-own.branch [

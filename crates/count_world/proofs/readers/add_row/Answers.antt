@@ -1,8 +1,10 @@
-use Rattle.std.proofs.Common.{◌-◌}
+use Rattle.std.proofs.Common.{◌-◌, arith}
+use Rattle.px_base.specs.FlatRows.{read_with}
 use Rattle.count_world.proofs.Gathered.{row_grows}
 use Rattle.count_world.proofs.readers.add_row.Goals as goal
 
-pub loop-read-preserved : goal.loop-read-preserved
-loop-read-preserved c =
+pub loop-k-preserved : goal.loop-k-preserved
+loop-k-preserved c =
     let part = c.args.part.now in
-    row_grows (part.high - part.low) part.low c.args.readers.now c.loop-read.readers c.add_read.new.readers c.args.reader c.args.row.now c.loop-read.read-index (record { source = 0; weight = 0 }) c.loop-read-test.true c.loop-read.invariant c.in_ok-add_read.ensures
+    row_grows (part.high - part.low) part.low c.args.readers.now c.loop-k.readers c.add_read.new.readers c.args.reader c.args.row.now c.loop-k.k (read_with 0 0) (omega (arith, c.loop-k-test.true, c.len-k-end.ensures)) c.loop-k.invariant
+    (rw c.read.ensures.read at c.in_ok-add_read.ensures)

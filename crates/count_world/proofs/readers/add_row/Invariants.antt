@@ -5,5 +5,5 @@ use Rattle.count_world.specs.Readers.{HasGrown}
 use Rattle.count_world.proofs.readers.add_row.Given as goal
 
 -- the reads so far are added
-abbrev pub invariant-loop-read : goal.invariant-loop-read
-invariant-loop-read l = HasGrown (l.part.high - l.part.low) l.fn.readers l.readers (λ k j. if l.reader == j then reads_passing (λ u. u == l.part.low + k) (take l.read-index l.row) else 0)
+abbrev pub invariant-loop-k : goal.invariant-loop-k
+invariant-loop-k l = HasGrown (l.part.high - l.part.low) l.fn.readers l.readers (λ i j. if l.reader == j then reads_passing (λ u. u == l.part.low + i) (take l.k l.row) else 0)

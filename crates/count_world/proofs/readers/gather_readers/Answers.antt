@@ -1,7 +1,6 @@
-use Rattle.std.proofs.Common.{◌≡◌, ◌∙◌, ◌+◌, ◌-◌, ◌<◌, true, false, length, get_or, [], replicate, ap, arith}
+use Rattle.std.proofs.Common.{◌≡◌, ◌∙◌, ◌+◌, ◌-◌, true, false, [], replicate, ap, arith}
 use Rattle.std.specs.Prelude.{nat_lt, ◌==◌, if◌then◌else◌}
 use Rattle.std.proofs.lemmas.Bool.Decides.{nat_tests}
-use Rattle.std.proofs.lemmas.List.{get_or_default}
 use Rattle.px_base.specs.Graphs.{row_at, reads_passing}
 use Rattle.count_world.specs.Readers.{times_in_row, times_listed}
 use Rattle.count_world.proofs.Gathered.{none_yet, never_yet, rows_grow}
@@ -22,9 +21,7 @@ pub loop-j-preserved : goal.loop-j-preserved
 loop-j-preserved c =
     let part = c.args.part.now in
     let grown = c.in_ok-add_row.ensures in
-    let inside : c.loop-j.j < length part.rows = omega (arith, c.loop-j-test.true, ap length c.as_slice-row-items.ensures) in
-    let row : c.as_slice.result.now ≡ row_at part.rows c.loop-j.j =
-    c.as_slice.ensures ∙ c.row-item.is ∙ ap (λ rows. get_or rows c.loop-j.j c.row-item.result) c.as_slice-row-items.ensures ∙ get_or_default part.rows c.loop-j.j c.row-item.result [] inside in
+    let row : c.row.result ≡ row_at part.rows c.loop-j.j = c.row.ensures.row in
     record {
       masters = grown.still;
       times = λ k i below. rows_grow part c.loop-j.readers c.add_row.new.readers c.loop-j.j k i (c.loop-j.invariant.times k i below)
@@ -37,6 +34,6 @@ returns c =
     record {
       masters = c.loop-j.invariant.masters;
       times = λ k j below inside.
-          (let low : nat_lt j c.loop-j.j ≡ true = grind (arith, nat_tests, inside, c.loop-j-test.false, ap length c.as_slice-row-items.ensures, c.requires.fits.rows) in
+          (let low : nat_lt j c.loop-j.j ≡ true = grind (arith, nat_tests, inside, c.loop-j-test.false, c.row_count-j-end.ensures, c.requires.fits.rows) in
           c.loop-j.invariant.times k j below ∙ ap (λ b. if b then times_in_row part k j else 0) low);
     }

@@ -9,8 +9,8 @@ use Rattle.edge_reader.specs.Scans.{judged, line_said}
 use Rattle.edge_reader.specs.Lists.{open_line}
 use Rattle.edge_reader.proofs.Texts.{ended_few}
 use Rattle.edge_reader.proofs.LineScans.{scanned_is}
-use Rattle.edge_reader.proofs.WholeInputs.{Progress, few_bytes, progress_fails, progress_ends, progress_goes_on, progress_faulty, progress_long, front_taken, more_left, line_is_no_read_fault}
-use Rattle.edge_reader.specs.declared.fault.EdgeFault.TheVariants.{ReadFault}
+use Rattle.edge_reader.proofs.WholeInputs.{Progress, few_bytes, progress_fails, progress_ends, progress_goes_on, progress_faulty, progress_long, front_taken, more_left, line_counts_nothing, line_is_no_read_fault}
+use Rattle.edge_reader.specs.declared.fault.EdgeFault.TheVariants.{ReadFault, TooManyVertices}
 use Rattle.edge_reader.proofs.reader.read_lines.Goals as goal
 
 pub loop-count-init : goal.loop-count-init
@@ -102,3 +102,27 @@ returns-in_err-scan-clause-cause g c = λ e.
     let q = err_from_is_err_and c.from_residual-in_err-scan.result c.from_residual-in_err-scan.ensures.1 in
     let same : c.in_err-scan.field-0.0 ≡ ReadFault = cc (q.1, q.2) in
     absurd ((c.in_err-scan.ensures.fed p.text p.fed (few_bytes p.text (take c.in-Ok.count c.take.new.space) c.loop-count.total p.size (omega (arith, size, c.if-count-room.false, p.short)))).own same)
+
+pub returns-then-count-eq0-clause-uncounted : goal.returns-then-count-eq0-clause-uncounted
+returns-then-count-eq0-clause-uncounted g c = λ e.
+    let p = c.loop-count.invariant.progress in
+    let few : length (ended_lines p.text) < 2 ^ 32 = omega (arith, ended_few p.text, p.size, p.short) in
+    let is : line_of c.loop-count.lines.weighted (open_line p.text) ≡ line_said c.judged.result = sym (scanned_is c.loop-count.lines.weighted (open_line p.text)) ∙ ap judged (sym p.fed.1) ∙ sym c.judged.ensures in
+    absurd (line_counts_nothing _ c.end_line.new.self c.end_line.result (c.end_line.ensures.adds (ended_lines p.text) (open_line p.text) p.fed.0 is few) e)
+
+pub returns-in_err-feed-clause-uncounted : goal.returns-in_err-feed-clause-uncounted
+returns-in_err-feed-clause-uncounted g c = λ e.
+    let p = c.loop-count.invariant.progress in
+    let room : ℕ = 4294967295 - c.loop-count.total in
+    let size : length (take room c.take.new.space) ≡ room = length-take-le room c.take.new.space (omega (arith, c.in-Ok.ensures.within, c.if-count-room.true)) in
+    let q = err_from_is_err_and c.from_residual.result c.from_residual.ensures.1 in
+    let same : c.in_err-feed.field-0.0 ≡ TooManyVertices = cc (q.1, q.2) in
+    absurd ((c.in_err-feed.ensures.fed p.text p.fed (few_bytes p.text (take room c.take.new.space) c.loop-count.total p.size (omega (arith, size, p.short)))).early same)
+
+pub returns-in_err-scan-clause-uncounted : goal.returns-in_err-scan-clause-uncounted
+returns-in_err-scan-clause-uncounted g c = λ e.
+    let p = c.loop-count.invariant.progress in
+    let size : length (take c.in-Ok.count c.take.new.space) ≡ c.in-Ok.count = length-take-le c.in-Ok.count c.take.new.space (omega (arith, c.in-Ok.ensures.within)) in
+    let q = err_from_is_err_and c.from_residual-in_err-scan.result c.from_residual-in_err-scan.ensures.1 in
+    let same : c.in_err-scan.field-0.0 ≡ TooManyVertices = cc (q.1, q.2) in
+    absurd ((c.in_err-scan.ensures.fed p.text p.fed (few_bytes p.text (take c.in-Ok.count c.take.new.space) c.loop-count.total p.size (omega (arith, size, c.if-count-room.false, p.short)))).early same)

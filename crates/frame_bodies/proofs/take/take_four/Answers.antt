@@ -1,14 +1,11 @@
-use Rattle.std.proofs.Common.{ℕ, List, ◌++◌, ap, ◌∙◌, sym, arith}
-use Rattle.std.specs.Int.{w32, from_be_bytes}
-use Rattle.px_base.specs.Frames.{four_bytes}
+use Rattle.std.proofs.Common.{◌-◌, length, drop, length-drop, arith}
+use Rattle.std.proofs.lemmas.List.{take_all}
 use Rattle.frame_bodies.proofs.ReadNumbers.{four_read}
 use Rattle.frame_bodies.proofs.take.take_four.Goals as goal
 
-pub returns-in-Some : goal.returns-in-Some
-returns-in-Some c =
-    let k = c.in-Some.ensures.cases in (
-      four_read c.args.bytes.now c.from_be_bytes.result (omega (arith, k.2)) (λ i. omega (arith, c.type_inv.bytes i))
-          (c.from_be_bytes.ensures ∙ ap (λ (l : List ℕ). from_be_bytes w32 l) k.0)
-          ∙ ap (λ (l : List ℕ). four_bytes c.from_be_bytes.result ++ l) (sym k.1),
-      omega (arith, c.from_be_bytes.type_inv),
-    )
+pub returns : goal.returns
+returns c = (
+  rw (take_all (length c.args.bytes.now - 4) (drop 4 c.args.bytes.now) (omega (arith, length-drop 4 c.args.bytes.now)))
+      (four_read c.args.bytes.now c.read_u32.result c.if-bytes-lt4.false (λ i. omega (arith, c.type_inv.bytes i)) c.read_u32.ensures),
+  omega (arith, c.read_u32.type_inv),
+)

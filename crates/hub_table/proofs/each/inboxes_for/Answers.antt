@@ -1,10 +1,10 @@
-use Rattle.std.proofs.Common.{◌≡◌, ◌∙◌, ◌++◌, [], List, ℕ, All, ◌<◌, ◌^◌, ap}
+use Rattle.std.proofs.Common.{◌≡◌, ◌∙◌, ◌++◌, [], List, ℕ, All, ◌<◌, ap}
 use Rattle.std.specs.Vec.Iter.{into_iter_items}
 use Rattle.std.specs.List.Sorted.{IsStrictlyIncreasing}
-use Rattle.partitioner.proofs.Moved.{none_left}
 use Rattle.hub_table.specs.Tables.{tables}
-use Rattle.hub_table.proofs.Making.{all_empty_made, all_made, made_more, next_list}
+use Rattle.hub_table.proofs.Making.{all_empty_made, all_made, made_more, next_list, none_left}
 use Rattle.hub_table.proofs.each.inboxes_for.Goals as goal
+use Rattle.px_base.specs.declared.TheConstants.{MOST_VERTICES}
 
 pub listed-requires-clause-rising : goal.listed-requires-clause-rising
 listed-requires-clause-rising c =
@@ -14,7 +14,7 @@ listed-requires-clause-rising c =
 pub listed-requires-clause-below : goal.listed-requires-clause-below
 listed-requires-clause-below c =
     let split = c.loop-list.invariant.0 ∙ ap (λ (ls : List (List ℕ)). tables c.loop-list.inboxes.items ++ ls) c.in-Some.ensures.steps.0 in
-    rw c.into_vec.ensures (next_list (λ (list : List ℕ). All (λ v. v < 2 ^ 22) list) c.args.lists.items (tables c.loop-list.inboxes.items) (into_iter_items c.next.new.self) c.in-Some.list split c.requires.few)
+    rw c.into_vec.ensures (next_list (λ (list : List ℕ). All (λ v. v < MOST_VERTICES) list) c.args.lists.items (tables c.loop-list.inboxes.items) (into_iter_items c.next.new.self) c.in-Some.list split c.requires.few)
 
 pub loop-list-preserved : goal.loop-list-preserved
 loop-list-preserved c =

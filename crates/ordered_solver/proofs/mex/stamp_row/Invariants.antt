@@ -5,9 +5,9 @@ use Rattle.ordered_solver.proofs.Stamping.{Marks}
 use Rattle.ordered_solver.proofs.mex.stamp_row.Given as goal
 
 -- the table tells of the edge values so far
-abbrev pub invariant-loop-read : goal.invariant-loop-read
-invariant-loop-read l = record {
-  marks : Marks (length l.row) l.stamp l.stamps.items (edge_values l.along l.values (take l.read-index l.row));
+abbrev pub invariant-loop-k : goal.invariant-loop-k
+invariant-loop-k l = record {
+  marks : Marks (length l.row) l.stamp l.stamps.items (edge_values l.along l.values (take l.k l.row));
   old : All (λ s. s ≤ l.stamp) l.stamps.items;
   room : vec_len l.stamps ≡ vec_len l.initial.stamps;
 }

@@ -3,5 +3,5 @@ use Rattle.px_base.specs.Rules.{edge_values, greatest}
 use Rattle.ordered_solver.proofs.pulls.greatest_of.Given as goal
 
 -- the best so far is what the reads so far give
-abbrev pub invariant-loop-read : goal.invariant-loop-read
-invariant-loop-read l = l.best ≡ greatest l.start (edge_values l.along l.values (take l.read-index l.row))
+abbrev pub invariant-loop-k : goal.invariant-loop-k
+invariant-loop-k l = l.best ≡ greatest l.start (edge_values l.along l.values (take l.k l.row))

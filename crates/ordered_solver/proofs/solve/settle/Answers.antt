@@ -14,9 +14,8 @@ loop-turn-preserved c =
     let before = c.loop-turn.values.items in
     let i = c.loop-turn.invariant in
     let v = get_or order c.loop-turn.turn 0 in
-    let inside : v < length rows = c.requires.order.within c.loop-turn.turn 0 c.loop-turn-test.true in
     let is : c.pulled.result ≡ pull p rows starts before v =
-    is_pull p rows starts before c.as_slice.result.now v c.pulled.result c.as_slice-row.result.now c.index-rows-v.result inside c.pulled.ensures.value c.as_slice.ensures.value c.as_slice-row.ensures c.index-rows-v.is in
+    is_pull p rows starts before c.as_slice.result.now v c.pulled.result c.row-row.result c.pulled.ensures.value c.as_slice.ensures.value c.row-row.ensures.row in
     record {
       values = values_stay (length rows) before v c.pulled.result i.values
           (subst IsValue (sym is) (pull_in_range p rows starts before v c.requires.rows.weights c.requires.reads c.requires.starts.in_range i.values.in_range));

@@ -8,7 +8,7 @@ use Rattle.partitioner.proofs.words.all_mirrors.Given as goal
 -- the mirrors of the parts so far, and their bits
 abbrev pub invariant-loop-j : goal.invariant-loop-j
 invariant-loop-j l = record {
-  lists : l.lists.items ≡ by_position l.j (mirrors_of l.graph.rows l.cuts.ends);
-  size : length l.words.items ≡ l.graph.n;
-  bits : (u k : ℕ) → has_bit (get_or l.words.items u 0) k ≡ (nat_lt k l.j && is_mirror l.graph.rows l.cuts.ends k u);
+  lists : l.lists.items ≡ by_position l.j (mirrors_of l.rows l.cuts.ends);
+  size : length l.words.items ≡ length l.rows;
+  bits : (u k : ℕ) → has_bit (get_or l.words.items u 0) k ≡ (nat_lt k l.j && is_mirror l.rows l.cuts.ends k u);
 }

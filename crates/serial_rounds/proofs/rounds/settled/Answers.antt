@@ -5,7 +5,8 @@ use Rattle.std.specs.Vec.{with_items}
 use Rattle.std.proofs.lemmas.List.{with_items_is}
 use Rattle.std.proofs.lemmas.Result.{IfOk-weaker}
 use Rattle.px_base.specs.declared.wire.Update.{Update}
-use Rattle.px_base.specs.Parts.{part_count, routes_of}
+use Rattle.px_base.specs.Graphs.{RowsFit}
+use Rattle.px_base.specs.Parts.{IsWorkerCuts, part_count, routes_of}
 use Rattle.px_base.specs.Worlds.{World, masters_of}
 use Rattle.consistent_solver.specs.CoreLists.{IsGreatestCoreConsistent}
 use Rattle.serial_rounds.specs.declared.steps.Sent.{Sent}
@@ -13,6 +14,12 @@ use Rattle.serial_rounds.specs.Mail.{is_still}
 use Rattle.serial_rounds.proofs.InStep.{AreInStep, IsJob, IsRound, accepts, job_is, kept_on, opened_with, round_of, routes_known, sent_known}
 use Rattle.serial_rounds.proofs.Ending.{round_ends, round_falls}
 use Rattle.serial_rounds.proofs.rounds.settled.Goals as goal
+
+pub parts_and_routes-requires-clause-rows : goal.parts_and_routes-requires-clause-rows
+parts_and_routes-requires-clause-rows g c = subst (λ n. RowsFit n c.args.graph.rows) (sym c.requires.rows.one_each) c.requires.rows
+
+pub parts_and_routes-requires-clause-cuts : goal.parts_and_routes-requires-clause-cuts
+parts_and_routes-requires-clause-cuts g c = subst (λ n. IsWorkerCuts n c.args.cuts.now.ends) (sym c.requires.rows.one_each) c.requires.cuts
 
 pub loop-inboxes-init : goal.loop-inboxes-init
 loop-inboxes-init g c =

@@ -6,26 +6,27 @@ use Rattle.px_base.specs.Graphs.{row_at}
 use Rattle.px_base.specs.Rules.{least}
 use Rattle.px_base.specs.Pulls.{master_pull}
 use Rattle.px_base.specs.ValueSteps.{renewed_value}
-use Rattle.worker_world.specs.Placed.{master_count, placed_items, placed_row}
+use Rattle.placed_parts.specs.Places.{master_count, placed_row}
+use Rattle.worker_world.specs.Placed.{placed_items}
 use Rattle.worker_world.proofs.Placing.{row_places_within, renewed_by_place, least_gathers}
 use Rattle.worker_world.proofs.pulls.write_least.Goals as goal
 
 pub least_of_row-pulled-requires-clause-places : goal.least_of_row-pulled-requires-clause-places
 least_of_row-pulled-requires-clause-places c =
     let inside : c.loop-k.k < length c.args.part.now.rows = omega (arith, c.loop-k-test.true, c.requires.fits.rows, c.requires.next) in
-    let row : c.row.result.now ≡ placed_row c.args.part.now (row_at c.args.part.now.rows c.loop-k.k) = c.row.ensures ∙ (c.requires.rows.each c.loop-k.k inside).is in
-    rw c.requires.count (row_places_within c.args.part.now c.loop-k.k c.row.result.now c.requires.fits inside row)
+    let row : c.row.result ≡ placed_row c.args.part.now (row_at c.args.part.now.rows c.loop-k.k) = c.row.ensures.row in
+    rw c.requires.count (row_places_within c.args.part.now c.loop-k.k c.row.result c.requires.fits inside row)
 
 pub loop-k-preserved : goal.loop-k-preserved
 loop-k-preserved c =
     let inside : c.loop-k.k < length c.args.part.now.rows = omega (arith, c.loop-k-test.true, c.requires.fits.rows, c.requires.next) in
-    let row : c.row.result.now ≡ placed_row c.args.part.now (row_at c.args.part.now.rows c.loop-k.k) = c.row.ensures ∙ (c.requires.rows.each c.loop-k.k inside).is in
+    let row : c.row.result ≡ placed_row c.args.part.now (row_at c.args.part.now.rows c.loop-k.k) = c.row.ensures.row in
     let items = placed_items c.args.core.now c.args.values.now (placed_row c.args.part.now (row_at c.args.part.now.rows c.loop-k.k)) in
     let start = slice_index c.args.part.now.starts c.loop-k.k in
     let first : c.loop-k.k < length c.loop-k.next = omega (arith, inside, c.requires.fits.rows, c.requires.next, c.loop-k.auto.next) in
     let pulled : c.least_of_row-pulled.result ≡ core_gather c.args.core.now start items =
     c.least_of_row-pulled.ensures
-    ∙ ap (λ s. least s (placed_items c.args.core.now c.args.values.now c.row.result.now)) (ap (λ xs. slice_index xs c.loop-k.k) c.as_slice-starts.ensures)
+    ∙ ap (λ s. least s (placed_items c.args.core.now c.args.values.now c.row.result)) (ap (λ xs. slice_index xs c.loop-k.k) c.starts-starts.ensures)
     ∙ ap (λ reads. least start (placed_items c.args.core.now c.args.values.now reads)) row
     ∙ least_gathers c.args.core.now start items c.requires.fold in
     below_more _ _

@@ -2,7 +2,7 @@ use Rattle.std.proofs.Common.{◌≡◌, ℕ, ◌<◌, get_or, take, drop}
 use Rattle.std.specs.Prelude.{slice_index}
 use Rattle.px_base.specs.Pulls.{master_pull}
 use Rattle.px_base.specs.ValueSteps.{renewed_value}
-use Rattle.worker_world.specs.Placed.{master_count}
+use Rattle.placed_parts.specs.Places.{master_count}
 use Rattle.worker_world.proofs.pulls.write_least.Given as goal
 
 -- each master so far has its new value

@@ -2,7 +2,7 @@ use Rattle.std.proofs.Common.{◌≡◌, ℕ, ◌<◌, length, get_or, take, dro
 use Rattle.std.specs.Prelude.{slice_index}
 use Rattle.px_base.specs.Pulls.{master_pull}
 use Rattle.px_base.specs.ValueSteps.{renewed_value}
-use Rattle.worker_world.specs.Placed.{master_count}
+use Rattle.placed_parts.specs.Places.{master_count}
 use Rattle.worker_world.proofs.pulls.write_mex.Given as goal
 
 -- each master so far has its new value, and the table its length

@@ -4,5 +4,5 @@ use Rattle.worker_world.specs.Placed.{read_items}
 use Rattle.worker_world.proofs.read_rules.least_read.Given as goal
 
 -- the least so far is what the reads so far give
-abbrev pub invariant-loop-read : goal.invariant-loop-read
-invariant-loop-read g l = l.best ≡ least l.start (read_items (g.E.ReadRule.read_value l.rule) l.values (take l.read-index l.row))
+abbrev pub invariant-loop-k : goal.invariant-loop-k
+invariant-loop-k g l = l.best ≡ least l.start (read_items (g.E.ReadRule.read_value l.rule) l.values (take l.k l.row))

@@ -1,6 +1,6 @@
 use Rattle.std.proofs.Common.{◌≡◌, ℕ, ◌+◌, ◌<◌, length}
 use Rattle.px_base.specs.Graphs.{row_at}
-use Rattle.worker_world.specs.Placed.{master_count, placed_row}
+use Rattle.placed_parts.specs.Places.{master_count, placed_row}
 use Rattle.worker_world.specs.Readers.{AreMasters, ReadsRow}
 use Rattle.worker_world.proofs.readers.gather_readers.Given as goal
 

@@ -1,30 +1,28 @@
-use Rattle.std.proofs.Common.{◌∙◌, arith}
-use Rattle.px_base.specs.declared.wire.Update.{Update}
+use Rattle.std.proofs.Common.{◌≡◌, ◌<◌, ◌≤◌, ◌∙◌, length, arith}
+use Rattle.count_world.proofs.Foreign.{some_update}
+use Rattle.worker_world.proofs.Looked.{places_count, place_at, place_inside}
 use Rattle.worker_world.proofs.Updates.{updated_length, all_to_take_back, one_back, none_left}
 use Rattle.worker_world.proofs.steps.take_back.Goals as goal
 
-abbrev none : Update
-none = record { vertex = 0; value = 0 }
+pub loop-place-init : goal.loop-place-init
+loop-place-init c k below = all_to_take_back c.args.updates.now c.args.mirrors.now c.args.before.now c.args.values.now k c.requires.updated (omega (arith, c.requires.lengths))
 
-pub loop-update-init : goal.loop-update-init
-loop-update-init c k below = all_to_take_back c.args.updates.now c.args.mirrors.now c.args.before.now c.args.values.now k c.requires.updated (omega (arith, c.requires.lengths))
+pub bounds-values-place : goal.bounds-values-place
+bounds-values-place c =
+    let size : length c.loop-place.values ≡ length c.args.mirrors.now = c.loop-place.auto.values ∙ updated_length c.args.updates.now c.args.mirrors.now c.args.before.now c.args.values.now c.requires.updated ∙ c.requires.lengths in
+    omega (arith, size, c.requires.places.inside c.loop-place.place-index 0 c.loop-place-test.true)
 
-pub place_of-at-requires-clause-listed : goal.place_of-at-requires-clause-listed
-place_of-at-requires-clause-listed c = c.requires.known c.loop-update.update-index none c.loop-update-test.true
-
-pub bounds-values-at : goal.bounds-values-at
-bounds-values-at c = omega (
-  arith,
-  c.place_of-at.ensures.within,
-  c.loop-update.auto.values,
-  c.requires.lengths,
-  updated_length c.args.updates.now c.args.mirrors.now c.args.before.now c.args.values.now c.requires.updated,
-)
-
-pub loop-update-preserved : goal.loop-update-preserved
-loop-update-preserved c k below =
-    one_back c.args.updates.now c.args.mirrors.now c.args.before.now c.loop-update.values c.loop-update.update-index c.place_of-at.result none c.loop-update-test.true c.requires.rising (c.loop-update.auto.values ∙ updated_length c.args.updates.now c.args.mirrors.now c.args.before.now c.args.values.now c.requires.updated ∙ c.requires.lengths)
-    c.place_of-at.ensures.place c.place_of-at.ensures.within k below (c.loop-update.invariant k below)
+pub loop-place-preserved : goal.loop-place-preserved
+loop-place-preserved c k below =
+    let updates = c.args.updates.now in
+    let mirrors = c.args.mirrors.now in
+    let places = c.args.places.now in
+    let i = c.loop-place.place-index in
+    let more : i < length updates = omega (arith, c.loop-place-test.true, places_count mirrors updates places c.requires.places) in
+    one_back updates mirrors c.args.before.now c.loop-place.values i _ some_update more c.requires.rising (c.loop-place.auto.values ∙ updated_length updates mirrors c.args.before.now c.args.values.now c.requires.updated ∙ c.requires.lengths)
+    (place_at mirrors updates places i some_update c.requires.places more) (place_inside mirrors updates places i c.requires.places more) k below (c.loop-place.invariant k below)
 
 pub returns : goal.returns
-returns c = none_left c.args.updates.now c.args.mirrors.now c.args.before.now c.loop-update.values c.loop-update.update-index c.loop-update-test.false (c.loop-update.auto.values ∙ updated_length c.args.updates.now c.args.mirrors.now c.args.before.now c.args.values.now c.requires.updated) (λ k below. c.loop-update.invariant k (omega (arith, c.requires.lengths)))
+returns c =
+    let past : length c.args.updates.now ≤ c.loop-place.place-index = omega (arith, c.loop-place-test.false, places_count c.args.mirrors.now c.args.updates.now c.args.places.now c.requires.places) in
+    none_left c.args.updates.now c.args.mirrors.now c.args.before.now c.loop-place.values c.loop-place.place-index past (c.loop-place.auto.values ∙ updated_length c.args.updates.now c.args.mirrors.now c.args.before.now c.args.values.now c.requires.updated) (λ k below. c.loop-place.invariant k (omega (arith, c.requires.lengths)))

@@ -1,5 +1,5 @@
 use Rattle.std.proofs.Common.{◌≡◌, ℕ, ◌<◌, ◌≤◌, length, get_or}
-use Rattle.worker_world.specs.Placed.{master_count}
+use Rattle.placed_parts.specs.Places.{master_count}
 use Rattle.worker_world.specs.Due.{StaysDue, AreTold}
 use Rattle.worker_world.proofs.telling.settle_all.Given as goal
 

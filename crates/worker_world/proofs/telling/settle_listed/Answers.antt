@@ -2,7 +2,7 @@ use Rattle.std.proofs.Common.{◌<◌, ◌≢◌, ◌∙◌, length, length-set,
 use Rattle.std.proofs.lemmas.Bool.Decides.{eqb_tells}
 use Rattle.std.proofs.lemmas.List.{drop_all}
 use Rattle.px_base.specs.Values.{is_listed}
-use Rattle.worker_world.specs.Placed.{master_count}
+use Rattle.placed_parts.specs.Places.{master_count}
 use Rattle.worker_world.proofs.Halved.{both_same}
 use Rattle.worker_world.proofs.Told.{told_more, listed_after, stays_on}
 use Rattle.worker_world.proofs.telling.settle_listed.Goals as goal

@@ -1,6 +1,6 @@
 use Rattle.std.proofs.Common.{◌≡◌, ℕ, ◌<◌, ◌≤◌, false, length, get_or, drop}
 use Rattle.px_base.specs.Values.{is_listed}
-use Rattle.worker_world.specs.Placed.{master_count}
+use Rattle.placed_parts.specs.Places.{master_count}
 use Rattle.worker_world.specs.Due.{StaysDue, AreTold}
 use Rattle.worker_world.proofs.telling.settle_listed.Given as goal
 

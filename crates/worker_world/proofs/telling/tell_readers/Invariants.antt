@@ -1,7 +1,7 @@
 use Rattle.std.proofs.Common.{◌≡◌, ℕ, ◌<◌, true, false, length}
 use Rattle.std.specs.Prelude.{All}
 use Rattle.px_base.specs.Values.{is_listed}
-use Rattle.worker_world.specs.Placed.{master_count}
+use Rattle.placed_parts.specs.Places.{master_count}
 use Rattle.worker_world.specs.Readers.{is_reader}
 use Rattle.worker_world.specs.Due.{is_due, StaysDue}
 use Rattle.worker_world.proofs.telling.tell_readers.Given as goal

@@ -28,7 +28,7 @@ loop-v-preserved c =
     let v = c.loop-v.v in
     let i = c.loop-v.invariant in
     let is = c.in_ok-bury_if_short.ensures in
-    let step = checked k (v + 1) rows [] c.loop-v.self v c.requires.mutual i.peeling (i.living v (omega arith) c.loop-v-test.true) (λ u below apart living. i.enough u (other_below u v below apart) living) in
+    let step = checked k (v + 1) rows [] c.loop-v.self v c.requires.mutual i.peeling (i.living v (omega arith) (omega (arith, c.row_count-v-end.ensures))) (λ u below apart living. i.enough u (other_below u v below apart) living) in
     record {
       peeling = subst (λ (s : PeelState). IsPeeling k rows [] s) (sym is) step.peeling;
       enough = subst (λ (s : PeelState). HaveEnough k (v + 1) s) (sym is) step.enough;

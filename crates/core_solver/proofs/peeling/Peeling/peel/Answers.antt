@@ -1,5 +1,4 @@
 use Rattle.std.proofs.Common.{◌≡◌, List, [], ◌∙◌, subst, sym}
-use Rattle.std.proofs.lemmas.List.{get_or_default}
 use Rattle.px_base.specs.declared.graph.Read.{Read}
 use Rattle.px_base.specs.Graphs.{row_at}
 use Rattle.core_solver.specs.Peelings.{IsPeeling, PeelState}
@@ -15,5 +14,5 @@ take_reads-requires-clause-peeling c =
     let after : PeelState = record { alive = c.self.inside.alive.items; counts = c.self.inside.counts.items; dead = c.pop.new.self.items } in
     let known : IsPeeling k rows [] before = subst (λ (s : PeelState). IsPeeling k rows [] s) (sym c.self.view_is) c.loop-v.invariant.peeling in
     let next = popped k rows before c.pop.new.self.items v c.in-Some.ensures.items known in
-    let row : c.as_slice.result.now ≡ row_at rows v = c.as_slice.ensures ∙ c.index-rows-v.is ∙ get_or_default rows v c.index-rows-v.result [] next.0 in
+    let row : c.row.result ≡ row_at rows v = c.row.ensures.row in
     subst (λ (reads : List Read). IsPeeling k rows reads after) (sym row) next.1

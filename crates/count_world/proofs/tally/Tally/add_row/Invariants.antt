@@ -5,5 +5,5 @@ use Rattle.count_world.specs.Tally.{RaisesTally}
 use Rattle.count_world.proofs.tally.Tally.add_row.Given as goal
 
 -- the reads so far are added
-abbrev pub invariant-loop-read : goal.invariant-loop-read
-invariant-loop-read l = RaisesTally l.fn.self l.self (λ i. reads_passing (λ u. u == get_or l.part.mirrors i 0) (take l.read-index l.row))
+abbrev pub invariant-loop-k : goal.invariant-loop-k
+invariant-loop-k l = RaisesTally l.fn.self l.self (λ i. reads_passing (λ u. u == get_or l.part.mirrors i 0) (take l.k l.row))

@@ -1,4 +1,4 @@
-use Rattle.std.proofs.Common.{◌≡◌, ◌∙◌, ◌+◌, ◌<◌, [], length, get_or, take, ap, arith}
+use Rattle.std.proofs.Common.{◌≡◌, ◌+◌, ◌<◌, length, get_or, take, arith}
 use Rattle.std.specs.Prelude.{◌==◌}
 use Rattle.std.proofs.lemmas.List.{get_or_default}
 use Rattle.std.proofs.lemmas.List.Sums.{sum_by_more}
@@ -13,7 +13,7 @@ add_row-requires-clause-room c i d below =
     let rows = c.args.part.now.rows in
     let k = get_or c.args.members.now c.loop-k.k-index 0 in
     let inside : k < length rows = omega (arith, c.requires.members c.loop-k.k-index 0 c.loop-k-test.true, c.requires.fits.rows) in
-    let row : c.as_slice.result.now ≡ row_at rows k = c.as_slice.ensures ∙ c.index-rows-k.is ∙ ap (λ all. get_or all k c.index-rows-k.result) c.as_slice-rows.ensures ∙ get_or_default rows k c.index-rows-k.result [] inside in
+    let row : c.row.result ≡ row_at rows k = c.row.ensures.row in
     let here : i < length c.args.self.now.times.items = omega (arith, below, c.loop-k.invariant.size) in
     rw (get_or_default c.loop-k.self.times.items i d 0 below, row)
     (omega (
@@ -29,10 +29,10 @@ loop-k-preserved c =
     let rows = c.args.part.now.rows in
     let k = get_or c.args.members.now c.loop-k.k-index 0 in
     let inside : k < length rows = omega (arith, c.requires.members c.loop-k.k-index 0 c.loop-k-test.true, c.requires.fits.rows) in
-    let row : c.as_slice.result.now ≡ row_at rows k = c.as_slice.ensures ∙ c.index-rows-k.is ∙ ap (λ all. get_or all k c.index-rows-k.result) c.as_slice-rows.ensures ∙ get_or_default rows k c.index-rows-k.result [] inside in
+    let row : c.row.result ≡ row_at rows k = c.row.ensures.row in
     raises_on c.args.self.now c.loop-k.self c.add_row.new.self
     (λ i. times_of rows (take c.loop-k.k-index c.args.members.now) (get_or c.args.part.now.mirrors i 0))
-    (λ i. reads_passing (λ u. u == get_or c.args.part.now.mirrors i 0) c.as_slice.result.now)
+    (λ i. reads_passing (λ u. u == get_or c.args.part.now.mirrors i 0) c.row.result)
     (λ i. times_of rows (take (c.loop-k.k-index + 1) c.args.members.now) (get_or c.args.part.now.mirrors i 0))
     c.loop-k.invariant c.add_row.ensures
     (λ i below.

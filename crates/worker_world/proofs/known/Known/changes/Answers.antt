@@ -4,7 +4,7 @@ use Rattle.std.specs.List.{list_any}
 use Rattle.std.proofs.lemmas.List.{get_or-take}
 use Rattle.px_base.specs.Values.{positions_below}
 use Rattle.px_base.specs.ValueSteps.{has_changed}
-use Rattle.worker_world.specs.Placed.{master_count}
+use Rattle.placed_parts.specs.Places.{master_count}
 use Rattle.worker_world.proofs.Changing.{changed_listed}
 use Rattle.worker_world.proofs.known.Known.changes.Goals as goal
 

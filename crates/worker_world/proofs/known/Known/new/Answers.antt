@@ -5,7 +5,6 @@ use Rattle.worker_world.proofs.known.Known.new.Goals as goal
 
 pub returns-clause-placed : goal.returns-clause-placed
 returns-clause-placed c = record {
-  rows = search rules;
   readers = search rules;
   table = search rules;
   values = ap length c.in_ok-values.ensures ∙ first_count c.args.part.now c.args.core.now c.requires.fits;

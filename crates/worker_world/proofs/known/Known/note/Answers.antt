@@ -1,5 +1,6 @@
 use Rattle.std.proofs.Common.{◌∙◌, take}
-use Rattle.worker_world.specs.Placed.{master_count, mirrors_after}
+use Rattle.placed_parts.specs.Places.{master_count}
+use Rattle.worker_world.specs.Placed.{mirrors_after}
 use Rattle.worker_world.proofs.Placing.{HasHalves, put_halves, updated_values}
 use Rattle.worker_world.proofs.Keeping.{settled_updated}
 use Rattle.worker_world.proofs.known.Known.note.Goals as goal
@@ -12,7 +13,6 @@ pub renew-requires-clause-placed : goal.renew-requires-clause-placed
 renew-requires-clause-placed c =
     let tables = c.update.ensures.tables in
     record {
-      rows = rw tables.rows c.requires.placed.rows;
       readers = rw tables.readers c.requires.placed.readers;
       table = rw tables.table c.requires.placed.table;
       values = (updated c).count;

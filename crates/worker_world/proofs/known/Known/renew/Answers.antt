@@ -1,6 +1,6 @@
 use Rattle.std.proofs.Common.{◌≡◌, ◌∙◌, ◌++◌, refl, take, drop, true}
 use Rattle.px_base.specs.ValueSteps.{renewed_masters}
-use Rattle.worker_world.specs.Placed.{master_count}
+use Rattle.placed_parts.specs.Places.{master_count}
 use Rattle.worker_world.proofs.Placing.{HasHalves, renewed_halves}
 use Rattle.worker_world.proofs.Renewing.{HasRenewed, listed_renewed}
 use Rattle.worker_world.proofs.known.Known.renew.Goals as goal
@@ -16,7 +16,6 @@ returns-then-self c =
     renewed_halves part c.args.core.now (take m values) (drop m values) next c.renew_masters.new.next.items c.requires.fits c.requires.placed.next is in
     record {
       placed = record {
-        rows = c.requires.placed.rows;
         readers = c.requires.placed.readers;
         table = c.requires.placed.table;
         values = c.requires.placed.values;
@@ -41,7 +40,6 @@ returns-else-self c =
     (rw (c.as_slice-else-self-2.ensures.value) at c.renew_listed.ensures.kept) in
     record {
       placed = record {
-        rows = c.requires.placed.rows;
         readers = c.requires.placed.readers;
         table = c.requires.placed.table;
         values = c.requires.placed.values;

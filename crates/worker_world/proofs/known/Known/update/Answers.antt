@@ -1,6 +1,7 @@
 use Rattle.std.proofs.Common.{◌≡◌, ◌∙◌, ◌++◌, true, false, take, get_or, ap, sym}
 use Rattle.std.specs.Prelude.{◌||◌, All}
-use Rattle.worker_world.specs.Placed.{master_count, mirrors_after}
+use Rattle.placed_parts.specs.Places.{master_count}
+use Rattle.worker_world.specs.Placed.{mirrors_after}
 use Rattle.worker_world.specs.Due.{is_due, IsUpdateTold}
 use Rattle.worker_world.proofs.Reaching.{updates_told}
 use Rattle.worker_world.proofs.known.Known.update.Goals as goal

@@ -2,12 +2,17 @@ use Rattle.std.proofs.Common.{rules, arith, ◌≡◌, ◌∙◌, length, take, 
 use Rattle.px_base.proofs.WorldsKeep.{updated_fit, renewed_fit}
 use Rattle.px_base.specs.ValueSteps.{announcements}
 use Rattle.px_base.specs.Worlds.{is_fresh}
+use Rattle.placed_parts.proofs.Placing.{mirror_count}
 use Rattle.worker_world.proofs.Placing.{all_in_both}
 use Rattle.worker_world.proofs.Keeping.{settled_stepped}
 use Rattle.worker_world.proofs.Taken.{step_made, put_in_force, still_by_place}
-use Rattle.worker_world.specs.Placed.{master_count, mirrors_after}
+use Rattle.placed_parts.specs.Places.{master_count}
+use Rattle.worker_world.specs.Placed.{mirrors_after}
 use Rattle.worker_world.specs.Views.{values_of}
 use Rattle.worker_world.proofs.value_world.ValueWorld.renew.Goals as goal
+
+pub find_places-found-requires-clause-few : goal.find_places-found-requires-clause-few
+find_places-found-requires-clause-few c = omega (arith, ap length c.mirrors-mirrors.ensures, mirror_count c.self.inside.part c.self.invariant.world.fits.part)
 
 pub note-changed-requires-clause-values : goal.note-changed-requires-clause-values
 note-changed-requires-clause-values c = all_in_both (master_count c.self.inside.part) c.self.inside.known.values.items c.self.invariant.world.fits.masters.in_range c.self.invariant.world.fits.mirrors.in_range

@@ -1,0 +1,5 @@
+pub mod Pieces
+pub mod Triples
+pub mod PartEntries
+pub mod WholeLoads
+pub mod GraphParts
